@@ -1,0 +1,7 @@
+-- What the contracts of `pay_fixed` cite.
+pub mod Round
+pub mod Grammar
+pub mod Reading
+pub mod Decimal
+pub mod Parts
+pub mod Laws

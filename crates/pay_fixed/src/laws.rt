@@ -1,0 +1,27 @@
+//! Laws that show the definitions of rounding and of decimals to be the ones meant. Each stands on a function with an
+//! empty body; the function's clause is the law.
+
+ghost use Rattle.pay_fixed.specs.Round.{RoundIsNearest};
+ghost use Rattle.pay_fixed.specs.Laws.{DecimalIsSpelled, DecimalReadsBack, DecimalIsShortest};
+
+/// `round` gives the nearest whole number, and of two that are as near the one farther from zero.
+pub fn round_is_nearest()
+    ensures { RoundIsNearest }
+{}
+
+/// A text is read as a number exactly where it spells a decimal whose raw, rounded once, is this number, within the
+/// limit; it is too large exactly where it spells one beyond the limit, and no number exactly where it spells none.
+pub fn decimal_is_spelled()
+    ensures { DecimalIsSpelled }
+{}
+
+/// Each number within the limit is read back from the text that is written for it.
+pub fn decimal_reads_back()
+    ensures { DecimalReadsBack }
+{}
+
+/// The text that is written for a number spells exactly this number, and no text without a power of ten that spells
+/// exactly this number has fewer digits after the point.
+pub fn decimal_is_shortest()
+    ensures { DecimalIsShortest }
+{}
