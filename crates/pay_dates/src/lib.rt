@@ -1,13 +1,17 @@
-// A library with one function.
+//! Days of the calendar from 1900-01-01 to 2199-12-31: their parts, their numbers and their texts.
+//!
+//! A `Day` is one date of these three hundred years. In a clause it is the plain date of
+//! `jiff_core`, so contracts speak of its `year`, `month` and `day`, of its number by `day_number`,
+//! the days since 1970-01-01, and of its text `YYYY-MM-DD` by `day_text`. `day_in` is the reading
+//! of a text. The two laws tie the three together.
 #![tactic(auto)]
 
-ghost use Rattle.std.specs.Prelude.{◌≡◌};
-ghost use Rattle.pay_dates.specs.Echo.{echo_of};
+mod day;
+mod laws;
+#[cfg(test)]
+mod tests;
+mod text;
 
-// The `ensures` clause is the contract: what `echo` returns is `echo_of` of its argument, a definition
-// in `specs/Echo.antt`, which a caller's clause can cite too.
-pub fn echo(x: usize) -> usize
-    ensures { result ≡ echo_of x }
-{
-    x
-}
+pub use day::Day;
+pub use laws::{day_number_orders, day_text_reads_back};
+pub use text::{NoMemory, read_day, write_day};
