@@ -1,0 +1,4 @@
+pub mod Edge
+pub mod Kept
+pub mod Memory
+pub mod MemoryText

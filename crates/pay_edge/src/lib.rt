@@ -1,13 +1,24 @@
-// A library with one function.
+//! The edge of the product: where files come from and go to, and where text is put.
+//!
+//! `Depot` is a place of files by name, and `Sink` takes bytes in order. What each call does is stated over what the
+//! depot or the sink means: the files or the text, where these are told, and counts of faults, which never fall.
+//! `MemoryDepot` and `MemorySink` tell all and fail where they are asked to. `FileDepot` and `StreamSink` are over the
+//! files and streams of the system, and tell no content. `read_whole` reads a file of any depot, up to a limit.
 #![tactic(auto)]
 
-ghost use Rattle.std.specs.Prelude.{◌≡◌};
-ghost use Rattle.pay_edge.specs.Echo.{echo_of};
+mod depot;
+mod file_depot;
+mod kept;
+mod memory_depot;
+mod memory_sink;
+mod sink;
+mod stream_sink;
+mod whole;
 
-// The `ensures` clause is the contract: what `echo` returns is `echo_of` of its argument, a definition
-// in `specs/Echo.antt`, which a caller's clause can cite too.
-pub fn echo(x: usize) -> usize
-    ensures { result ≡ echo_of x }
-{
-    x
-}
+pub use depot::{Depot, FetchFault, NoMemory, ReplaceFault};
+pub use file_depot::FileDepot;
+pub use memory_depot::MemoryDepot;
+pub use memory_sink::MemorySink;
+pub use sink::{Failed, Sink};
+pub use stream_sink::StreamSink;
+pub use whole::{WholeFault, read_whole};

@@ -1,0 +1,145 @@
+// A depot over the files of the system.
+ghost use Rattle.std.specs.Prelude.{◌≡◌, ◌≤◌, [], length, IfOk};
+ghost use Rattle.std.specs.declared.option.Option.TheVariants.{None};
+ghost use Rattle.pay_edge.specs.Kept.{count_of};
+
+use crate::depot::{Depot, FetchFault, NoMemory, ReplaceFault};
+use crate::kept::put_first;
+use crate::sink::Failed;
+use crate::stream_sink::write_out;
+use std::alloc::Global;
+use std::fs;
+use std::io::{Read, Seek, SeekFrom};
+use std::rt::Files;
+
+/// A depot over the files of the system, whose names are paths. It doesn't tell its files, and a file that is not
+/// there is a failed fetch. It keeps the name of each failed fetch, and counts failed replaces up to 2^64 - 1.
+#[derive(Drop)]
+pub struct FileDepot<R: Files> {
+    alloc: Global,
+    runtime: R,
+    // The names whose fetches failed, the newest first.
+    failed: Vec<String>,
+    fetches: u64,
+    write_faults: u64,
+}
+
+impl<R: Files> FileDepot<R> {
+    /// A depot over the files that `runtime` reaches, whose counts are 0.
+    pub fn new(alloc: Global, runtime: R) -> FileDepot<R>
+        ensures read_faults { result.failed.items ≡ [] }
+        ensures fetches { result.fetches ≡ 0 }
+        ensures write_faults { result.write_faults ≡ 0 }
+    {
+        FileDepot {
+            alloc,
+            runtime,
+            failed: Vec::new(alloc),
+            fetches: 0,
+            write_faults: 0,
+        }
+    }
+}
+
+impl<R: Files> Depot for FileDepot<R> {
+    ghost files = { λ _. None };
+
+    ghost read_faults = { λ depot. count_of depot.failed.items };
+
+    ghost write_faults = { λ depot. depot.write_faults };
+
+    ghost fetches = { λ depot. depot.fetches };
+
+    fn fetch(&mut self, name: &str, at: u64, into: &mut [u8]) -> Result<usize, FetchFault> {
+        self.fetches = self.fetches.saturating_add(1);
+        // Room for a note of a failure is taken before the read.
+        let Ok(noted) = String::from_str(self.alloc, name) else {
+            return Err(FetchFault::NoMemory);
+        };
+        if self.failed.reserve(1).is_err() {
+            return Err(FetchFault::NoMemory);
+        }
+        if let Ok(count) = read_at(&self.runtime, name, at, into) {
+            return Ok(count);
+        }
+        match put_first(&mut self.failed, noted) {
+            Ok(()) => Err(FetchFault::Failed),
+            Err(NoMemory) => Err(FetchFault::NoMemory),
+        }
+    }
+
+    fn replace(&mut self, name: &str, bytes: &[u8]) -> Result<(), ReplaceFault> {
+        if write_file(&self.runtime, name, bytes).is_err() {
+            self.write_faults = self.write_faults.saturating_add(1);
+            return Err(ReplaceFault::Failed);
+        }
+        Ok(())
+    }
+}
+
+// Reads a file from the byte `at` on, until the buffer is full or the file ends.
+fn read_at<R: Files>(runtime: &R, name: &str, at: u64, into: &mut [u8]) -> Result<usize, Failed>
+    ensures { IfOk result (λ count. count ≤ length into.old) }
+{
+    let Ok(mut file) = fs::File::open(runtime, name) else {
+        return Err(Failed);
+    };
+    if at != 0 && file.seek(SeekFrom::Start(at)).is_err() {
+        return Err(Failed);
+    }
+    read_full(&mut file, into)
+}
+
+// Reads until the buffer is full or the stream ends.
+fn read_full<F: Read>(stream: &mut F, into: &mut [u8]) -> Result<usize, Failed>
+    ensures { IfOk result (λ count. count ≤ length into.old) }
+{
+    let mut count = 0;
+    while count < into.len() {
+        match stream.read(&mut into[count..]) {
+            Ok(0) => break,
+            Ok(more) => count += more,
+            Err(_) => return Err(Failed),
+        }
+    }
+    Ok(count)
+}
+
+// Makes a file of these bytes, in the place of what was there.
+fn write_file<R: Files>(runtime: &R, name: &str, bytes: &[u8]) -> Result<(), Failed> {
+    let Ok(mut file) = fs::File::create(runtime, name) else {
+        return Err(Failed);
+    };
+    write_out(&mut file, bytes)
+}
+
+#[cfg(test)]
+mod tests {
+    use super::*;
+    use crate::whole::{WholeFault, read_whole};
+    use std::test::Fail;
+
+    const NAME: &str = "pay_edge_file_depot_test.bin";
+
+    #[test]
+    fn a_file_of_the_system_is_read_and_replaced(rt: HostRuntime) -> Result<(), Fail> {
+        let alloc = rt.alloc();
+        let file = vec![in alloc; 7u8; 70_000]?;
+        fs::write(&rt, NAME, file.as_slice())?;
+        let mut depot = FileDepot::new(alloc, &rt);
+        let read = read_whole(alloc, &mut depot, NAME, 70_000)?;
+        assert!(rt; read.as_slice() == file.as_slice());
+        assert!(rt; depot.replace(NAME, b"short").is_ok());
+        assert!(rt; read_whole(alloc, &mut depot, NAME, 5)?.as_slice() == b"short".as_slice());
+        fs::remove_file(&rt, NAME)?;
+
+        assert!(rt; depot.failed.is_empty() && depot.write_faults == 0);
+        let Err(fault) = read_whole(alloc, &mut depot, NAME, 5) else {
+            return Err(Fail::new("a file that is not there was read"));
+        };
+        assert!(rt; fault == WholeFault::Failed && depot.failed.len() == 1);
+        assert!(rt; depot.replace("pay_edge_no_such_folder/a", b"") == Err(ReplaceFault::Failed));
+        assert!(rt; depot.write_faults == 1);
+        Ok(())
+    }
+}
