@@ -1,0 +1,4 @@
+pub mod Language
+pub mod Meaning
+pub mod Events
+pub mod Laws

@@ -1,0 +1,45 @@
+-- The plain data of the language: numbers, statements, events and scripts, as every contract speaks of them.
+use Rattle.std.specs.Prelude.{ℕ, ℤ, List}
+use Rattle.pay_dates.specs.declared.day.Day.{Day}
+
+-- an operator with two sides
+pub data Operator : Type 0 where
+  add : Operator
+  subtract : Operator
+
+-- a number: a literal by its raw, a variable by its name, the fixing of the event's date, or two numbers under an operator
+pub data Number : Type 0 where
+  literal : ℤ → Number
+  variable : List ℕ → Number
+  spot : Number
+  binary : Operator → Number → Number → Number
+
+-- a statement: a variable is given a value, or a leg is paid an amount
+pub data Statement : Type 0 where
+  assign : List ℕ → Number → Statement
+  pay : List ℕ → Number → Statement
+
+-- the statements of an event, in their order
+pub data Body : Type 0 where
+  done : Body
+  next : Statement → Body → Body
+
+-- these statements, and one more behind them
+abbrev pub and_then : Body → Statement → Body
+and_then done last = next last done
+and_then (next s rest) last = next s (and_then rest last)
+
+-- statements on one date; a rolled event also has its place in its schedule and the days since the date before, a plain event 0 and 0
+pub record Event : Type 0 where
+  pub date : Day
+  pub period : ℕ
+  pub days : ℕ
+  pub body : Body
+
+-- an item of a script: statements on one date
+pub data Item : Type 0 where
+  plain : Day → Body → Item
+
+-- a script: its items in the order of the text
+abbrev pub Script : Type 0
+Script = List Item

@@ -1,0 +1,136 @@
+-- What a script means: the payments that its events make in one scenario.
+use Rattle.std.specs.Prelude.{ℕ, ℤ, pos, ◌+ℤ◌, ◌-ℤ◌, List, [], ◌∷◌, ◌++◌, Option, Some, None, Result, Ok, Err, unwrap_or}
+use Rattle.std.specs.Ordering.{nat_cmp, int_cmp}
+use Rattle.std.specs.Cmp.Lexicographic.{slice_cmp}
+use Rattle.std.specs.FinMap.{FinMap, empty, get, insert}
+use Rattle.pay_fixed.specs.Round.{limited}
+use Rattle.pay_dates.specs.Days.{day_number}
+use Rattle.pay_dates.specs.declared.day.Day.{Day}
+use Rattle.pay_meaning.specs.Language.{Operator, add, subtract, Number, literal, variable, spot, binary, Statement, assign, pay, Body, done, next, Event}
+use Rattle.pay_meaning.specs.declared.fault.FaultKind.{FaultKind}
+use Rattle.pay_meaning.specs.declared.fault.FaultKind.TheVariants.{Overflow, MissingFixing}
+
+-- the raws of the variables that were assigned, by name
+abbrev pub Variables : Type 0
+Variables = FinMap (slice_cmp nat_cmp) ℤ
+
+-- the raws of the fixings that there are, by the numbers of their dates
+abbrev pub Fixings : Type 0
+Fixings = FinMap int_cmp ℤ
+
+-- the value of a variable; one that was never assigned is 0
+abbrev pub value_of : Variables → List ℕ → ℤ
+value_of variables name = unwrap_or (get variables name) (pos 0)
+
+-- the fixing at a date, if there is one
+abbrev pub fixing_at : Fixings → Day → Option ℤ
+fixing_at fixings date = get fixings (day_number date)
+
+-- what the statements of an event can read of it: its date, the fixing there, its period and its days
+pub record Moment : Type 0 where
+  pub date : Day
+  pub fixing : Option ℤ
+  pub period : ℕ
+  pub days : ℕ
+
+abbrev pub moment_of : Event → Fixings → Moment
+moment_of event fixings = record { date = event.date; fixing = fixing_at fixings event.date; period = event.period; days = event.days }
+
+-- the raw of two raws under an operator, or Overflow where it is beyond the limit
+abbrev pub calc : Operator → ℤ → ℤ → Result ℤ FaultKind
+calc add a b = limited Overflow (a +ℤ b)
+calc subtract a b = limited Overflow (a -ℤ b)
+
+-- a fixing, or the fault that it is missing
+abbrev pub known : Option ℤ → Result ℤ FaultKind
+known None = Err MissingFixing
+known (Some raw) = Ok raw
+
+-- the left fault, else the right fault, else the answer of both
+abbrev pub both : {A B : Type 0} → (A → A → Result B FaultKind) → Result A FaultKind → Result A FaultKind → Result B FaultKind
+both f (Err fault) right = Err fault
+both f (Ok a) (Err fault) = Err fault
+both f (Ok a) (Ok b) = f a b
+
+-- the value of a number: a raw, or the first fault from left to right
+abbrev pub value : Number → Variables → Moment → Result ℤ FaultKind
+value (literal raw) variables at = Ok raw
+value (variable name) variables at = Ok (value_of variables name)
+value spot variables at = known at.fixing
+value (binary op left right) variables at = both (calc op) (value left variables at) (value right variables at)
+
+-- an amount that a leg is paid at a date
+pub record Payment : Type 0 where
+  pub date : Day
+  pub leg : List ℕ
+  pub amount : ℤ
+
+-- what statements leave: the variables, and the payments in order
+pub record Effect : Type 0 where
+  pub variables : Variables
+  pub payments : List Payment
+
+-- a variable gets this value, unless it faulted
+abbrev pub assigned : Variables → List ℕ → Result ℤ FaultKind → Result Effect FaultKind
+assigned variables name (Err fault) = Err fault
+assigned variables name (Ok raw) = Ok (record { variables = insert variables name raw; payments = [] })
+
+-- a leg is paid this amount, unless it faulted
+abbrev pub paid : Variables → Day → List ℕ → Result ℤ FaultKind → Result Effect FaultKind
+paid variables date leg (Err fault) = Err fault
+paid variables date leg (Ok raw) = Ok (record { variables = variables; payments = record { date = date; leg = leg; amount = raw } ∷ [] })
+
+-- payments made before those of an effect
+abbrev pub after_payments : List Payment → Result Effect FaultKind → Result Effect FaultKind
+after_payments before (Err fault) = Err fault
+after_payments before (Ok effect) = Ok (record { variables = effect.variables; payments = before ++ effect.payments })
+
+-- an effect, and then what follows from its variables
+abbrev pub followed_by : Result Effect FaultKind → (Variables → Result Effect FaultKind) → Result Effect FaultKind
+followed_by (Err fault) rest = Err fault
+followed_by (Ok effect) rest = after_payments effect.payments (rest effect.variables)
+
+abbrev pub effect_of : Statement → Variables → Moment → Result Effect FaultKind
+effect_of (assign name number) variables at = assigned variables name (value number variables at)
+effect_of (pay leg number) variables at = paid variables at.date leg (value number variables at)
+
+-- the effect of statements in order; the first fault is the fault of them all, and then there is no payment
+abbrev pub effect : Body → Variables → Moment → Result Effect FaultKind
+effect done variables at = Ok (record { variables = variables; payments = [] })
+effect (next statement rest) variables at = followed_by (effect_of statement variables at) (λ after. effect rest after at)
+
+-- how a scenario ends: all events ran, and these are the last variables; or the event of this date faulted
+pub data End : Type 0 where
+  finished : Variables → End
+  faulted : Day → FaultKind → End
+
+-- the payments of a scenario in order, and how it ends
+pub record Meaning : Type 0 where
+  pub payments : List Payment
+  pub end : End
+
+-- payments made before those of a meaning
+abbrev pub after_earlier : List Payment → Meaning → Meaning
+after_earlier before m = record { payments = before ++ m.payments; end = m.end }
+
+-- an event that faults pays nothing and ends the scenario; otherwise the rest follows from its variables
+abbrev pub event_then : Day → Result Effect FaultKind → (Variables → Meaning) → Meaning
+event_then date (Err fault) rest = record { payments = []; end = faulted date fault }
+event_then date (Ok effect) rest = after_earlier effect.payments (rest effect.variables)
+
+-- the direct meaning of events in their order, from these variables, under these fixings
+abbrev pub meaning : List Event → Variables → Fixings → Meaning
+meaning [] variables fixings = record { payments = []; end = finished variables }
+meaning (event ∷ rest) variables fixings =
+    event_then event.date (effect event.body variables (moment_of event fixings)) (λ after. meaning rest after fixings)
+
+-- no variable was assigned yet
+abbrev pub no_variables : Variables
+no_variables = empty
+
+-- the fixings of a row: its cells that aren't empty, by the numbers of their dates
+abbrev pub fixings_of : List Day → List (Option ℤ) → Fixings
+fixings_of [] cells = empty
+fixings_of (date ∷ dates) [] = empty
+fixings_of (date ∷ dates) (None ∷ cells) = fixings_of dates cells
+fixings_of (date ∷ dates) (Some raw ∷ cells) = insert (fixings_of dates cells) (day_number date) raw

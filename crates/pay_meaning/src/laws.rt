@@ -1,0 +1,21 @@
+ghost use Rattle.pay_meaning.specs.Laws.{MeaningOfParts, MeaningReadsOwnDates, OrderIsUnique, SharedDateIsEarliest};
+
+/// The meaning of a list of events is that of its front, and then that of the rest from the front's last variables.
+pub fn meaning_of_parts()
+    ensures { MeaningOfParts }
+{}
+
+/// A meaning reads the fixings at its events' dates alone.
+pub fn meaning_reads_own_dates()
+    ensures { MeaningReadsOwnDates }
+{}
+
+/// Events in order rise by date and are at each date those of the list, in its order; and there is one such order.
+pub fn order_is_unique()
+    ensures { OrderIsUnique }
+{}
+
+/// The shared date that is found is the earliest that two events have, and where none is found no two share one.
+pub fn shared_date_is_earliest()
+    ensures { SharedDateIsEarliest }
+{}
