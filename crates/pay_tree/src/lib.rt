@@ -1,13 +1,12 @@
-// A library with one function.
+//! The surface trees of a script: its names, numbers, statements and items as they are written.
+//!
+//! A clause sees a tree as the plain data of the language, by the views of `specs/Views.antt`, and a name as its bytes.
 #![tactic(auto)]
 
-ghost use Rattle.std.specs.Prelude.{◌≡◌};
-ghost use Rattle.pay_tree.specs.Echo.{echo_of};
+mod name;
+#[cfg(test)]
+mod tests;
+mod tree;
 
-// The `ensures` clause is the contract: what `echo` returns is `echo_of` of its argument, a definition
-// in `specs/Echo.antt`, which a caller's clause can cite too.
-pub fn echo(x: usize) -> usize
-    ensures { result ≡ echo_of x }
-{
-    x
-}
+pub use name::{Name, NameFault, is_digit, is_letter};
+pub use tree::{Binary, Expr, Item, NamedEvent, Script, Stmt};

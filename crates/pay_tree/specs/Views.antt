@@ -1,0 +1,49 @@
+-- The trees of a script as the plain data of the language.
+use Rattle.std.specs.Prelude.{List, [], ◌∷◌, map}
+use Rattle.pay_meaning.specs.Language.{Operator, add, subtract, Number, literal, variable, spot, binary, Statement, assign, pay, Body, done, next, Event, Item, plain, Script}
+use Rattle.pay_tree.specs.declared.tree.Binary.{Binary}
+use Rattle.pay_tree.specs.declared.tree.Binary.TheVariants.{Add, Sub}
+use Rattle.pay_tree.specs.declared.tree.Expr.{Expr}
+use Rattle.pay_tree.specs.declared.tree.Expr.TheOpen.{Expr-F}
+use Rattle.pay_tree.specs.declared.tree.Expr.TheFolds.{fold-Expr}
+use Rattle.pay_tree.specs.declared.tree.Stmt.{Stmt}
+use Rattle.pay_tree.specs.declared.tree.Stmt.TheVariants as stmt
+use Rattle.pay_tree.specs.declared.tree.Item.{Item as ItemTree}
+use Rattle.pay_tree.specs.declared.tree.Item.TheVariants as item_tree
+use Rattle.pay_tree.specs.declared.tree.Script.{Script as ScriptTree}
+use Rattle.pay_tree.specs.declared.tree.NamedEvent.{NamedEvent}
+
+abbrev pub operator : Binary → Operator
+operator Add = add
+operator Sub = subtract
+
+abbrev pub number_part : Expr-F Number → Number
+number_part (Expr-F.Number raw) = literal raw
+number_part (Expr-F.Name name) = variable name
+number_part Expr-F.Spot = spot
+number_part (Expr-F.Binary op left right) = binary (operator op) left.value right.value
+
+-- the number that an expression is
+abbrev pub number : Expr → Number
+number = fold-Expr Number number_part
+
+abbrev pub statement : Stmt → Statement
+statement (stmt.Assign name value) = assign name (number value)
+statement (stmt.Pay leg amount) = pay leg (number amount)
+
+abbrev pub body_of : List Statement → Body
+body_of [] = done
+body_of (first ∷ rest) = next first (body_of rest)
+
+abbrev pub body : List Stmt → Body
+body statements = body_of (map statement statements)
+
+abbrev pub item : ItemTree → Item
+item (item_tree.Plain date statements) = plain date (body statements.items)
+
+-- the script that a tree is
+abbrev pub script : ScriptTree → Script
+script tree = map item tree.items.items
+
+abbrev pub event : NamedEvent → Event
+event e = record { date = e.date; period = e.period; days = e.days; body = body e.body.items }

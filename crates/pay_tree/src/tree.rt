@@ -1,0 +1,76 @@
+use crate::name::Name;
+use pay_dates::Day;
+use pay_fixed::Fixed;
+
+/// An operator with two sides.
+#[derive(Clone, Copy, PartialEq, Eq, Debug)]
+pub enum Binary {
+    /// `left + right`.
+    Add,
+    /// `left - right`.
+    Sub,
+}
+
+/// A number, as it is written.
+#[derive(Drop)]
+pub enum Expr {
+    /// A literal, in raws of 1/10,000.
+    Number(Fixed),
+    /// The value of a variable.
+    Name(Name),
+    /// `spot()`, the fixing at the event's date.
+    Spot,
+    /// Two numbers under an operator, the left one first.
+    Binary(Binary, Box<Expr>, Box<Expr>),
+}
+
+/// A statement of an event.
+#[derive(Drop)]
+pub enum Stmt {
+    /// `name = value`: the variable takes the value.
+    Assign {
+        /// The variable.
+        name: Name,
+        /// The number that it takes.
+        value: Expr,
+    },
+    /// `leg pays amount`: the leg pays the amount at the event's date.
+    Pay {
+        /// The leg.
+        leg: Name,
+        /// The number that it pays.
+        amount: Expr,
+    },
+}
+
+/// An item of a script.
+#[derive(Drop)]
+pub enum Item {
+    /// Statements on one date.
+    Plain {
+        /// The date.
+        date: Day,
+        /// The statements, in the order of the text.
+        body: Vec<Stmt>,
+    },
+}
+
+/// A script: its items, in the order of the text.
+#[derive(Drop)]
+pub struct Script {
+    /// The items, in the order of the text.
+    pub items: Vec<Item>,
+}
+
+/// An event: the statements of one date, with the period and the days that a schedule gives them (0 and 0 in a plain item).
+#[derive(Drop)]
+pub struct NamedEvent {
+    /// The date of the event.
+    pub date: Day,
+    /// The number of the period that the event ends, 0 in a plain item.
+    pub period: u32,
+    /// The days of that period, 0 in a plain item.
+    pub days: u32,
+    /// The statements, in the order of the text.
+    pub body: Vec<Stmt>,
+}
