@@ -1,13 +1,53 @@
-// A library with one function.
+//! The tool: what the words of a command line ask for, done over a depot of files and a sink of text.
+//!
+//! `run_tool` is the whole of it. It reads the request, fetches each file whole and checks it, and only then puts the
+//! report, piece by piece. Its contract has a clause for each exit status. The clause `pays_as_meant` says that a run
+//! with status 0 has put, for each scenario in the order of its file, the payments that the script means there.
+//!
+//! # Example
+//!
+//! Here `out` receives the lines `scenario,date,leg,amount`, `up,2024-06-28,opt,12.5` and `#nodes,,,`.
+//!
+//! ```text
+//! let mut depot = MemoryDepot::new(alloc);
+//! depot.add("s.pay", b"@2024-06-28 x = 100 opt pays spot() - x")?;
+//! depot.add("t.csv", b"scenario,2024-06-28\nup,112.5\n")?;
+//! let mut out = MemorySink::new(alloc, 1000)?;
+//! let mut err = MemorySink::new(alloc, 1000)?;
+//! // `words` are `run`, `s.pay` and `t.csv`
+//! let status = run_tool(alloc, &words, &mut depot, &mut out, &mut err);
+//! ```
 #![tactic(auto)]
 
-ghost use Rattle.std.specs.Prelude.{◌≡◌};
-ghost use Rattle.pay_tool.specs.Echo.{echo_of};
+mod columns;
+mod events;
+mod file_name;
+pub mod grammar_laws;
+mod input;
+mod keyword;
+pub mod laws;
+mod lexer;
+pub mod lexing_laws;
+mod limits;
+mod names;
+mod outcome;
+mod parser;
+mod put;
+mod refusal;
+mod report;
+mod request;
+mod run;
+mod run_row;
+mod scenario_run;
+mod scenarios;
+mod script;
+pub mod table_laws;
+mod table_reader;
+mod token;
+mod tool;
+mod variables;
+mod walker;
 
-// The `ensures` clause is the contract: what `echo` returns is `echo_of` of its argument, a definition
-// in `specs/Echo.antt`, which a caller's clause can cite too.
-pub fn echo(x: usize) -> usize
-    ensures { result ≡ echo_of x }
-{
-    x
-}
+pub use file_name::FileName;
+pub use request::{Request, RunWords, WordsFault, request_of_words};
+pub use tool::run_tool;

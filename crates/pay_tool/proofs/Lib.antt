@@ -1,0 +1,20 @@
+pub mod NameSetLemmas
+pub mod LimitLemmas
+pub mod SortLemmas
+pub mod BodyLemmas
+pub mod ScriptComplete
+pub mod ScriptSound
+pub mod LexingLemmas
+pub mod LexerLemmas
+mod ByteLemmas
+mod PieceLemmas
+mod ReaderLemmas
+pub mod TableLemmas
+pub mod Pieces
+pub mod Spelled
+pub mod Paid
+pub mod Ended
+pub mod OneAnswer
+pub mod ColumnLemmas
+pub mod VariableLemmas
+pub mod Payable

@@ -1,0 +1,193 @@
+-- What a reader has read so far, and what is left.
+use Rattle.std.proofs.Common.{◌≡◌, ◌≢◌, ℕ, ◌+◌, ◌<◌, List, [], ◌∷◌, ◌++◌, length, Option, Some, None, Bool, true, false, refl, sym, ap, ◌∙◌, append_assoc, arith, length-append, cond, ℤ, not, ◌&&◌, ◌||◌, take, drop, get_or, inl, inr, Result, Err}
+use Rattle.std.proofs.lemmas.Bool.{ne_eqb, lt-leb, and_right, cases_Bool, false_from_ne_true, and_parts, false≢true}
+use Rattle.std.proofs.lemmas.List.{take_more, take-append-drop}
+use Rattle.std.proofs.lemmas.List.Folds.{list_any-append, list_any_more}
+use Rattle.std.specs.Ordering.{int_eq}
+use Rattle.std.specs.List.{list_any}
+use Rattle.std.proofs.lemmas.Bool.Decides.{Decides-int_eq}
+use Rattle.pay_dates.specs.Days.{day_in, day_number}
+use denote.Ref.{Bor}
+use Rattle.std.specs.Option.{option_copied, is_some}
+use Rattle.pay_dates.specs.declared.day.Day.{Day}
+use Rattle.pay_tool.specs.Tables.{Row, are_distinct}
+use Rattle.pay_tool.specs.TableReading.{pieces, pieces_if, with_first, each_in, cell_in, full_if, columns_if, row_in, rows_in, rows_if, columns_in, table_of_rows, scenarios_in}
+use Rattle.pay_tool.proofs.TableLemmas.{pieces-first, pieces-some, rows_in-more}
+use Rattle.pay_dates.proofs.DayLemmas.{day_text-day_in, day_text-length}
+
+-- these values and then the others, if those are not missing
+abbrev pub after : {A : Type 0} → List A → Option (List A) → Option (List A)
+after front None = None
+after front (Some others) = Some (front ++ others)
+
+pub after-nothing : {A : Type 0} (others : Option (List A)) → others ≡ after [] others
+after-nothing None = refl
+after-nothing (Some others) = refl
+
+pub after-more : {A : Type 0} (front : List A) (x : A) (others : Option (List A)) → after front (with_first (Some x) others) ≡ after (front ++ x ∷ []) others
+after-more front x None = refl
+after-more front x (Some others) = ap (λ xs. Some xs) (sym (append_assoc front (x ∷ []) others))
+
+-- a text of another length is no day
+pub day_in-other : (text : List ℕ) → length text ≢ 10 → day_in text ≡ None
+day_in-other text other = at (day_in text) refl
+  where
+    at : (read : Option Day) → day_in text ≡ read → read ≡ None
+    at None is = refl
+    at (Some day) is =
+        let p = day_text-day_in text day is in
+        absurd (other (ap length (sym p.1) ∙ day_text-length day p.0))
+
+-- ---- too many
+
+full-none : (columns : ℕ) (cells : List (Option ℤ)) (x : Option (Option ℤ)) (others : Option (List (Option ℤ))) → length cells ≡ columns → full_if columns (after cells (with_first x others)) ≡ None
+full-none columns cells None others size = refl
+full-none columns cells (Some x) None size = refl
+full-none columns cells (Some x) (Some others) size =
+    let more : length (cells ++ x ∷ others) ≢ columns = λ e. omega (arith, length-append cells (x ∷ others)) in
+    rw (ne_eqb _ columns more) refl
+
+-- as many cells as columns, and one more piece
+pub full-past : (columns : ℕ) (cells : List (Option ℤ)) (left : List ℕ) (whole : Option (List (Option ℤ))) → whole ≡ after cells (each_in cell_in (pieces 44 left)) → length cells ≡ columns
+    → full_if columns whole ≡ None
+full-past columns cells left whole is size =
+    let first = pieces-first 44 left in
+    rw (is, first.1.1) (full-none columns cells (cell_in first.0) (each_in cell_in first.1.0) size)
+
+columns-none : (dates : List Day) (x : Option Day) (others : Option (List Day)) → length dates ≡ 4096 → columns_if (after dates (with_first x others)) ≡ None
+columns-none dates None others size = refl
+columns-none dates (Some x) None size = refl
+columns-none dates (Some x) (Some others) size =
+    let many : 4096 < length (dates ++ x ∷ others) = omega (arith, length-append dates (x ∷ others)) in
+    rw (and_right (are_distinct (dates ++ x ∷ others)) _ (lt-leb (length (dates ++ x ∷ others)) 4096 many)) refl
+
+-- 4,096 dates, and one more piece
+pub columns-past : (dates : List Day) (left : List ℕ) (whole : Option (List Day)) → whole ≡ after dates (each_in day_in (pieces 44 left)) → length dates ≡ 4096 → columns_if whole ≡ None
+columns-past dates left whole is size =
+    let first = pieces-first 44 left in
+    rw (is, first.1.1) (columns-none dates (day_in first.0) (each_in day_in first.1.0) size)
+
+rows-none : (rows : List Row) (x : Option Row) (others : Option (List Row)) → length rows ≡ 100_000 → rows_if (after rows (with_first x others)) ≡ None
+rows-none rows None others size = refl
+rows-none rows (Some x) None size = refl
+rows-none rows (Some x) (Some others) size =
+    let many : 100_000 < length (rows ++ x ∷ others) = omega (arith, length-append rows (x ∷ others)) in
+    rw (lt-leb (length (rows ++ x ∷ others)) 100_000 many) refl
+
+-- the rows of a line and of what is left below it
+pub rows-line : (columns : ℕ) (line left behind : List ℕ) → pieces 10 left ≡ line ∷ pieces 10 behind → rows_in columns (pieces 10 left) ≡ with_first (row_in columns line) (rows_in columns (pieces 10 behind))
+rows-line columns line left behind is = rw is (rows_in-more columns line (pieces 10 behind) (pieces-some 10 behind))
+
+-- ---- different dates
+
+-- this date is among these
+abbrev pub is_among : Day → List Day → Bool
+is_among date dates = list_any (λ other. int_eq (day_number other) (day_number date)) dates
+
+-- days compare as equal either way round
+same_back : (a b : ℤ) → int_eq a b ≡ int_eq b a
+same_back a b =
+    elim (cases_Bool (int_eq a b)) [
+      | inl same ↦ let e : b ≡ a = sym ((Decides-int_eq a b).0 same) in same ∙ sym ((Decides-int_eq b a).1 e)
+      | inr other ↦ other ∙ sym (false_from_ne_true (int_eq b a) (λ same. let e : a ≡ b = sym ((Decides-int_eq b a).0 same) in false≢true (sym other ∙ (Decides-int_eq a b).1 e)))
+    ]
+
+apart : (a d e x : Bool) → (not (a || (x || false)) && (d && not e)) ≡ ((not a && d) && not (x || e))
+apart true d e x = refl
+apart false true true true = refl
+apart false true true false = refl
+apart false true false true = refl
+apart false true false false = refl
+apart false false e true = refl
+apart false false e false = refl
+
+-- one more date
+distinct-push : (dates : List Day) (date : Day) → are_distinct (dates ++ date ∷ []) ≡ (are_distinct dates && not (is_among date dates))
+distinct-push [] date = refl
+distinct-push (first ∷ rest) date =
+    rw (list_any-append (λ other. int_eq (day_number other) (day_number first)) rest (date ∷ []), distinct-push rest date, same_back (day_number date) (day_number first))
+    (apart (is_among first rest) (are_distinct rest) (is_among date rest) (int_eq (day_number first) (day_number date)))
+
+distinct-first : (first : Day) (rest back : List Day) → (not (is_among first (rest ++ back)) ≡ true) → are_distinct rest ≡ true → (test : Bool) → is_among first rest ≡ test → (not test && are_distinct rest) ≡ true
+distinct-first first rest back new distinct false is = distinct
+distinct-first first rest back new distinct true is =
+    let more : is_among first (rest ++ back) ≡ true = list_any-append (λ other. int_eq (day_number other) (day_number first)) rest back ∙ rw is refl in
+    absurd (false≢true (sym (ap not more) ∙ new))
+
+distinct-front : (front back : List Day) → are_distinct (front ++ back) ≡ true → are_distinct front ≡ true
+distinct-front [] back h = refl
+distinct-front (first ∷ rest) back h =
+    let parts = and_parts (not (is_among first (rest ++ back))) (are_distinct (rest ++ back)) h in
+    distinct-first first rest back parts.0 (distinct-front rest back parts.1) (is_among first rest) refl
+
+-- the dates before place i are different, and so is the date there
+pub distinct-more : (dates : List Day) (i : ℕ) (date : Day) → i < length dates → date ≡ get_or dates i date → are_distinct (take i dates) ≡ true → is_among date (take i dates) ≡ false
+    → are_distinct (take (i + 1) dates) ≡ true
+distinct-more dates i date small is distinct new =
+    rw (take_more dates i date small, ← is, distinct-push (take i dates) date, distinct, new) refl
+
+-- the date at place i stands before it too
+pub distinct-repeat : (dates : List Day) (i : ℕ) (date : Day) → i < length dates → date ≡ get_or dates i date → is_among date (take i dates) ≡ true → are_distinct dates ≡ false
+distinct-repeat dates i date small is old =
+    let here : are_distinct (take (i + 1) dates) ≡ false = rw (take_more dates i date small, ← is, distinct-push (take i dates) date, old) (and_right (are_distinct (take i dates)) false refl) in
+    false_from_ne_true (are_distinct dates)
+    (λ all. false≢true (sym here ∙ distinct-front (take (i + 1) dates) (drop (i + 1) dates) (rw (take-append-drop (i + 1) dates) all)))
+
+-- the set with one more number has the numbers of the dates up to place i
+pub among-more : (dates : List Day) (i : ℕ) (date : Day) (n : ℤ) (before : Bool) → i < length dates → date ≡ get_or dates i date → before ≡ list_any (λ other. int_eq (day_number other) n) (take i dates)
+    → cond (int_eq (day_number date) n) true before ≡ list_any (λ other. int_eq (day_number other) n) (take (i + 1) dates)
+among-more dates i date n before small is so_far =
+    rw (so_far, list_any_more (λ other. int_eq (day_number other) n) dates i date small, ← is) (at (int_eq (day_number date) n) (list_any (λ other. int_eq (day_number other) n) (take i dates)))
+  where
+    at : (a b : Bool) → cond a true b ≡ (b || a)
+    at true true = refl
+    at true false = refl
+    at false true = refl
+    at false false = refl
+
+-- ---- rows of what is left
+
+-- a line that is not the last
+pub rows-left : (columns : ℕ) (line left : List ℕ) (behind : Option (Bor (List ℕ))) → pieces 10 left ≡ line ∷ pieces_if 10 (option_copied behind) → is_some behind ≡ true
+    → rows_in columns (pieces 10 left) ≡ with_first (row_in columns line) (rows_in columns (pieces_if 10 (option_copied behind)))
+rows-left columns line left None cut is = absurd (false≢true is)
+rows-left columns line left (Some behind) cut is = rows-line columns line left behind.now cut
+
+-- 100,000 rows, and one more line
+pub rows-past : (columns : ℕ) (rows : List Row) (line left : List ℕ) (behind : Option (Bor (List ℕ))) (whole : Option (List Row)) → pieces 10 left ≡ line ∷ pieces_if 10 (option_copied behind) → is_some behind ≡ true
+    → whole ≡ after rows (rows_in columns (pieces 10 left)) → length rows ≡ 100_000 → rows_if whole ≡ None
+rows-past columns rows line left behind whole cut is read size =
+    rw (read, rows-left columns line left behind cut is) (rows-none rows (row_in columns line) (rows_in columns (pieces_if 10 (option_copied behind))) size)
+
+-- a line that is no row
+pub rows-bad : (columns : ℕ) (rows : List Row) (line left : List ℕ) (behind : Option (Bor (List ℕ))) (whole : Option (List Row)) → pieces 10 left ≡ line ∷ pieces_if 10 (option_copied behind) → is_some behind ≡ true
+    → whole ≡ after rows (rows_in columns (pieces 10 left)) → row_in columns line ≡ None → rows_if whole ≡ None
+rows-bad columns rows line left behind whole cut is read bad =
+    rw (read, rows-left columns line left behind cut is, bad) refl
+
+-- a line that is a row
+pub rows-more : (columns : ℕ) (rows : List Row) (r : Row) (line left : List ℕ) (behind : Option (Bor (List ℕ))) (whole : Option (List Row)) → pieces 10 left ≡ line ∷ pieces_if 10 (option_copied behind) → is_some behind ≡ true
+    → whole ≡ after rows (rows_in columns (pieces 10 left)) → row_in columns line ≡ Some r → whole ≡ after (rows ++ r ∷ []) (rows_in columns (pieces_if 10 (option_copied behind)))
+rows-more columns rows r line left behind whole cut is read good =
+    read ∙ (ap (after rows) (rows-left columns line left behind cut is ∙ ap (λ x. with_first x (rows_in columns (pieces_if 10 (option_copied behind)))) good)
+    ∙ after-more rows r (rows_in columns (pieces_if 10 (option_copied behind))))
+
+-- ---- the whole text
+
+pub scenarios-no_columns : (text first : List ℕ) (below : List (List ℕ)) → pieces 10 text ≡ first ∷ below → columns_in first ≡ None → scenarios_in text ≡ None
+unfolding scenarios_in
+scenarios-no_columns text first below cut bad = rw (cut, bad) refl
+
+pub scenarios-no_rows : (text first : List ℕ) (below : List (List ℕ)) (dates : List Day) (columns : ℕ) → pieces 10 text ≡ first ∷ below → columns_in first ≡ Some dates → columns ≡ length dates
+    → rows_if (rows_in columns below) ≡ None → scenarios_in text ≡ None
+unfolding scenarios_in
+scenarios-no_rows text first below dates columns cut is size bad = rw (cut, is) (ap (table_of_rows dates) (rw size at bad))
+
+pub scenarios-some : (text first : List ℕ) (below : List (List ℕ)) (dates : List Day) (columns : ℕ) (rows : List Row) → pieces 10 text ≡ first ∷ below → columns_in first ≡ Some dates → columns ≡ length dates
+    → rows_if (rows_in columns below) ≡ Some rows → scenarios_in text ≡ Some (record { dates = dates; rows = rows })
+unfolding scenarios_in
+scenarios-some text first below dates columns rows cut is size good = rw (cut, is) (ap (table_of_rows dates) (rw size at good))
+
+-- one error, whatever the value would have been
+pub same_error : {A B E : Type 0} (x y : E) → ◌≡◌ {A = Result A E} (Err x) (Err y) → ◌≡◌ {A = Result B E} (Err x) (Err y)
+same_error x y h = let e : x ≡ y = cc in ap (λ z. Err z) e

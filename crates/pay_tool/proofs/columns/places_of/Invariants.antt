@@ -1,0 +1,9 @@
+use Rattle.std.proofs.Common.{◌≡◌, ℤ, drop}
+use Rattle.std.specs.Ordering.{int_cmp}
+use Rattle.std.specs.BTreeMap.{get}
+use Rattle.pay_tool.specs.Columns.{place_of}
+use Rattle.pay_tool.proofs.ColumnLemmas.{further}
+use Rattle.pay_tool.proofs.columns.places_of.Given as goal
+
+abbrev pub invariant-loop-index : goal.invariant-loop-index
+invariant-loop-index l = (number : ℤ) → get int_cmp l.places number ≡ further l.index (place_of number (drop l.index l.dates))

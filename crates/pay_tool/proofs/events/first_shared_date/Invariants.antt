@@ -1,0 +1,10 @@
+use Rattle.std.proofs.Common.{◌≡◌, map, length}
+use Rattle.pay_meaning.specs.Events.{shared_date}
+use Rattle.pay_tree.specs.Views.{event}
+use Rattle.pay_tool.proofs.events.first_shared_date.Given as goal
+
+abbrev pub invariant-loop-rest : goal.invariant-loop-rest
+invariant-loop-rest l = shared_date (map event l.events) ≡ shared_date (map event l.rest)
+
+abbrev pub decreases-loop-rest : goal.decreases-loop-rest
+decreases-loop-rest l = length l.rest

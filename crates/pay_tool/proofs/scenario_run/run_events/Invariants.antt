@@ -1,0 +1,10 @@
+use Rattle.std.proofs.Common.{◌≡◌, drop, map}
+use Rattle.pay_meaning.specs.Meaning.{after_earlier, fixings_of, meaning, no_variables}
+use Rattle.pay_tree.specs.Views.{event}
+use Rattle.pay_tool.specs.RunViews.{payment}
+use Rattle.pay_tool.proofs.scenario_run.run_events.Given as goal
+
+abbrev pub invariant-loop-index : goal.invariant-loop-index
+invariant-loop-index l =
+    meaning (map event l.events) no_variables (fixings_of l.dates l.cells)
+    ≡ after_earlier (map payment l.payments.items) (meaning (map event (drop l.index l.events)) l.variables (fixings_of l.dates l.cells))

@@ -1,0 +1,5 @@
+use Rattle.pay_tool.proofs.TableLemmas.{table-read}
+use Rattle.pay_tool.proofs.table_laws.spelled_table_is_read.Goals as goal
+
+pub returns : goal.returns
+returns c = table-read

@@ -1,0 +1,5 @@
+use Rattle.pay_tool.proofs.TableLemmas.{table-spelled}
+use Rattle.pay_tool.proofs.table_laws.table_is_spelled.Goals as goal
+
+pub returns : goal.returns
+returns c = table-spelled

@@ -1,0 +1,12 @@
+use Rattle.std.proofs.Common.{◌≡◌, length}
+use Rattle.std.specs.Option.{option_copied}
+use Rattle.pay_tool.specs.TableReading.{cell_in, each_in, pieces_if}
+use Rattle.pay_tool.proofs.ReaderLemmas.{after}
+use Rattle.pay_tool.proofs.table_reader.read_cells.Given as goal
+
+-- the cells so far, and then those of what is left
+abbrev pub invariant-loop-rest : goal.invariant-loop-rest
+invariant-loop-rest l = each_in cell_in (pieces_if 44 (option_copied l.text)) ≡ after l.cells.items (each_in cell_in (pieces_if 44 (option_copied l.rest)))
+
+abbrev pub decreases-loop-rest : goal.decreases-loop-rest
+decreases-loop-rest l = length (pieces_if 44 (option_copied l.rest))

@@ -1,0 +1,12 @@
+use Rattle.std.proofs.Common.{◌≡◌, drop, map}
+use Rattle.pay_meaning.specs.Meaning.{effect, after_payments}
+use Rattle.pay_tree.specs.Views.{body}
+use Rattle.pay_tool.specs.RunViews.{Extends, moment, payment}
+use Rattle.pay_tool.proofs.walker.run_statements.Given as goal
+
+abbrev pub invariant-loop-act : goal.invariant-loop-act
+invariant-loop-act l = record {
+  rest : after_payments (map payment l.initial.payments.items) (effect (body l.statements) l.initial.variables (moment l.at))
+      ≡ after_payments (map payment l.payments.items) (effect (body (drop l.act-index l.statements)) l.variables (moment l.at));
+  kept : Extends l.initial.payments.items l.payments.items;
+}

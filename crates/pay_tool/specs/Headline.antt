@@ -1,0 +1,58 @@
+-- The headline: a run that is done has written what the script means in each scenario.
+use Rattle.std.specs.Prelude.{◌≡◌, ◌≤◌, ℕ, ℤ, IsTrue, List, length, ◌++◌, map, Some}
+use Rattle.std.specs.List.{flat_map}
+use Rattle.std.specs.FinMap.{get}
+use Rattle.pay_edge.specs.Edge.{Files}
+use Rattle.pay_meaning.specs.Language.{Script}
+use Rattle.pay_meaning.specs.Meaning.{meaning, no_variables, fixings_of}
+use Rattle.pay_meaning.specs.Events.{event_of, events_of, IsShared}
+use Rattle.pay_tool.specs.declared.token.Token.{Token}
+use Rattle.pay_tool.specs.Tokens.{SpellsTokens}
+use Rattle.pay_tool.specs.Grammar.{SpellsScript}
+use Rattle.pay_tool.specs.Limits.{is_within_limits}
+use Rattle.pay_tool.specs.Tables.{Table, SpellsTable}
+use Rattle.pay_tool.specs.Report.{header_line, last_line, scenario_lines}
+use Rattle.pay_tool.specs.Requests.{run, request_of}
+use Rattle.pay_tool.specs.Answers.{script_limit, table_limit}
+
+-- The words ask for a run of two files. The bytes of the first spell tokens that spell a script, no two of whose events have one date.
+-- The bytes of the second spell a table. The text has gained a header, for each row of the table in order the lines of what the
+-- script's events mean under the fixings of that row, from no variables, and a last line.
+pub record PaysAsMeant (words : List (List ℕ)) (files : Files) (before after : List ℕ) : Type 0 where
+  pub script_name : List ℕ
+  pub table_name : List ℕ
+  pub asks : request_of words ≡ Some (run script_name table_name)
+  pub script_bytes : List ℕ
+  pub script_file : get files script_name ≡ Some script_bytes
+  pub table_bytes : List ℕ
+  pub table_file : get files table_name ≡ Some table_bytes
+  pub tokens : List Token
+  pub spells_tokens : SpellsTokens script_bytes tokens
+  pub script : Script
+  pub spells_script : SpellsScript tokens script
+  pub dates : (number : ℤ) → ¬ IsShared number (map event_of script)
+  pub table : Table
+  pub spells_table : SpellsTable table_bytes table
+  pub text : after ≡ before ++ (header_line
+      ++ (flat_map (λ row. scenario_lines row.label (meaning (events_of script) no_variables (fixings_of table.dates row.cells))) table.rows ++ last_line))
+
+-- The words ask for a run of two files, neither of which is too long. The bytes of the first spell tokens that spell a script within the
+-- limits, no two of whose events have one date. The bytes of the second spell a table.
+pub record IsPayable (words : List (List ℕ)) (files : Files) : Type 0 where
+  pub script_name : List ℕ
+  pub table_name : List ℕ
+  pub asks : request_of words ≡ Some (run script_name table_name)
+  pub script_bytes : List ℕ
+  pub script_file : get files script_name ≡ Some script_bytes
+  pub script_short : length script_bytes ≤ script_limit
+  pub table_bytes : List ℕ
+  pub table_file : get files table_name ≡ Some table_bytes
+  pub table_short : length table_bytes ≤ table_limit
+  pub tokens : List Token
+  pub spells_tokens : SpellsTokens script_bytes tokens
+  pub script : Script
+  pub spells_script : SpellsScript tokens script
+  pub within_limits : IsTrue (is_within_limits tokens script)
+  pub dates : (number : ℤ) → ¬ IsShared number (map event_of script)
+  pub table : Table
+  pub spells_table : SpellsTable table_bytes table

@@ -1,0 +1,23 @@
+-- Why an input gave no value.
+use Rattle.std.specs.Prelude.{◌≡◌, ℕ, ◌⊎◌, Option, IfSome, IsSomeAnd}
+use Rattle.pay_edge.specs.Edge.{Files, Rose}
+use Rattle.pay_tool.specs.declared.input.InputStop.{InputStop}
+use Rattle.pay_tool.specs.declared.input.InputStop.TheVariants.{Refused, Unread, NoMemory}
+use Rattle.pay_edge.specs.declared.whole.WholeFault.{WholeFault}
+use Rattle.pay_edge.specs.declared.whole.WholeFault.TheVariants as whole
+use Rattle.pay_tool.specs.declared.refusal.Refusal.TheVariants.{TooLong}
+use Rattle.pay_tool.specs.Answers.{Input, not_there, bad}
+
+-- An input is refused for this reason; or it is unread, since the count of its read faults rose or its file is not there;
+-- of want of memory nothing is said.
+abbrev pub StopsAt : {A : Type 0} → Option Files → (Files → Input A) → ℕ → ℕ → InputStop → Type 0
+StopsAt told input before now (Refused refusal) = IfSome told (λ files. input files ≡ bad refusal)
+StopsAt told input before now Unread = Rose before now ⊎ IsSomeAnd told (λ files. input files ≡ not_there)
+StopsAt told input before now NoMemory = Unit {0}
+
+-- the stop of a file that was not read as a whole
+abbrev pub stop_of : WholeFault → InputStop
+stop_of whole.Absent = Unread
+stop_of whole.Failed = Unread
+stop_of whole.TooLong = Refused TooLong
+stop_of whole.NoMemory = NoMemory

@@ -1,0 +1,94 @@
+//! The events of a script in order of date.
+
+ghost use Rattle.std.specs.Prelude.{◌≡◌, IfOk, IfErr, OnOk, map};
+ghost use Rattle.pay_meaning.specs.Events.{in_order, shared_date, shares_with_next};
+ghost use Rattle.pay_tree.specs.Views.{event, script};
+ghost use Rattle.pay_tool.specs.Answers.{good, ordered};
+ghost use Rattle.pay_tool.specs.EventOrder.{named};
+ghost use Rattle.pay_tool.specs.Stops.{Stops};
+
+use crate::refusal::Refusal;
+use crate::script::CheckStop;
+use pay_dates::Day;
+use pay_fixed::NoMemory;
+use pay_tree::{Item, NamedEvent, Script};
+use std::alloc::Global;
+
+// The events of a script in order of date. A date that two of them share is refused, the earliest one.
+pub fn events_in_order(alloc: Global, tree: Script) -> Result<Vec<NamedEvent>, CheckStop>
+    ensures accepted { IfOk result (λ events. ordered (script tree) ≡ good (map event events.items)) }
+    ensures refused { IfErr result (Stops (ordered (script tree))) }
+{
+    let Ok(mut events) = events_of_items(alloc, tree.items) else {
+        return Err(CheckStop::NoMemory);
+    };
+    let Ok(()) = sort_by_date(&mut events) else {
+        return Err(CheckStop::NoMemory);
+    };
+    match first_shared_date(&events) {
+        Some(date) => Err(CheckStop::Refused(Refusal::SameDate { date })),
+        None => Ok(events),
+    }
+}
+
+// The event of an item.
+fn named_event(tree: Item) -> NamedEvent
+    ensures { result ≡ named tree }
+{
+    match tree {
+        Item::Plain { date, body } => NamedEvent {
+            date,
+            period: 0,
+            days: 0,
+            body,
+        },
+    }
+}
+
+// The events of items, in the order of the items.
+fn events_of_items(alloc: Global, items: Vec<Item>) -> Result<Vec<NamedEvent>, NoMemory>
+    ensures { IfOk result (λ events. events.items ≡ map named items.items) }
+{
+    match items
+        .into_iter()
+        .map(|tree| named_event(tree))
+        .collect(alloc)
+    {
+        Ok(events) => Ok(events),
+        Err(_) => Err(NoMemory),
+    }
+}
+
+// Puts events in order of date.
+fn sort_by_date(events: &mut Vec<NamedEvent>) -> Result<(), NoMemory>
+    ensures { OnOk result (map event events.new.items ≡ in_order (map event events.old.items)) }
+{
+    let Ok(()) = events.sort_by_key(|event| event.date.number()) else {
+        return Err(NoMemory);
+    };
+    Ok(())
+}
+
+// Whether the next of these events is on the same date.
+fn shares_with_next(first: &NamedEvent, rest: &[NamedEvent]) -> bool
+    ensures { result ≡ shares_with_next (event first.now) (map event rest.now) }
+{
+    match rest {
+        [] => false,
+        [following, ..] => first.date.number() == following.date.number(),
+    }
+}
+
+// The date of the first two neighbours that have one date.
+fn first_shared_date(events: &[NamedEvent]) -> Option<Day>
+    ensures { result ≡ shared_date (map event events.now) }
+{
+    let mut rest = events;
+    while let [first, tail @ ..] = rest {
+        if shares_with_next(first, tail) {
+            return Some(first.date);
+        }
+        rest = tail;
+    }
+    None
+}

@@ -1,0 +1,104 @@
+//! The inputs of a run, each fetched whole and then checked.
+
+ghost use Rattle.std.specs.Prelude.{◌≡◌, ◌+◌, ◌≤◌, IfOk, IfErr, IfSome, map};
+ghost use Rattle.pay_edge.specs.Edge.{OnlyRead};
+ghost use Rattle.pay_tree.specs.Views.{event};
+ghost use Rattle.pay_tool.specs.Answers.{script_of, script_limit, table_of, table_limit, good};
+ghost use Rattle.pay_tool.specs.InputStops.{StopsAt, stop_of};
+ghost use Rattle.pay_tool.specs.Tables.{IsGood};
+ghost use Rattle.pay_tool.specs.TableViews.{table};
+
+use crate::refusal::Refusal;
+use crate::scenarios::Scenarios;
+use crate::script::{CheckStop, check_script};
+use crate::table_reader::{TableRefusal, read_scenarios};
+use pay_edge::{Depot, WholeFault, read_whole};
+use pay_tree::NamedEvent;
+use std::alloc::Global;
+
+// The greatest length of a script file, in bytes.
+const SCRIPT_LIMIT: u64 = 1_048_576;
+
+// The greatest length of a scenario file, in bytes.
+const TABLE_LIMIT: u64 = 67_108_864;
+
+/// Why an input gave no value.
+#[derive(Clone, Copy, PartialEq, Eq, Debug)]
+pub enum InputStop {
+    /// The input is refused.
+    Refused(Refusal),
+    /// A fetch failed, or the file is not there.
+    Unread,
+    /// There was no memory.
+    NoMemory,
+}
+
+/// The events of the script file `name` in order of date.
+///
+/// # Errors
+///
+/// `Refused` with the reason, `Unread` where a fetch failed or the depot tells its files and this one is not there,
+/// `NoMemory` where there was no memory.
+pub fn read_script<D: Depot>(
+    alloc: Global,
+    depot: &mut D,
+    name: &str,
+) -> Result<Vec<NamedEvent>, InputStop>
+    ensures reads { OnlyRead D.files D.read_faults D.write_faults depot.old depot.new }
+    ensures fetches { D.fetches depot.new ≤ D.fetches depot.old + (script_limit + 1) }
+    ensures accepted { IfOk result (λ events. IfSome (D.files depot.old) (λ files. script_of files name.now ≡ good (map event events.items))) }
+    ensures stopped { IfErr result (StopsAt (D.files depot.old) (λ files. script_of files name.now)
+        (D.read_faults depot.old name.now) (D.read_faults depot.new name.now)) }
+{
+    let bytes = match read_whole(alloc, depot, name, SCRIPT_LIMIT) {
+        Ok(bytes) => bytes,
+        Err(fault) => return Err(stop_of(fault)),
+    };
+    match check_script(alloc, bytes.as_slice()) {
+        Ok(events) => Ok(events),
+        Err(CheckStop::Refused(refusal)) => Err(InputStop::Refused(refusal)),
+        Err(CheckStop::NoMemory) => Err(InputStop::NoMemory),
+    }
+}
+
+/// The table of the scenario file `name`.
+///
+/// # Errors
+///
+/// `Refused` with the reason, `Unread` where a fetch failed or the depot tells its files and this one is not there,
+/// `NoMemory` where there was no memory.
+#[tactic(auto, unfolding(crate::specs::Answers::checked_table))]
+pub fn read_table<D: Depot>(
+    alloc: Global,
+    depot: &mut D,
+    name: &str,
+) -> Result<Scenarios, InputStop>
+    ensures reads { OnlyRead D.files D.read_faults D.write_faults depot.old depot.new }
+    ensures fetches { D.fetches depot.new ≤ D.fetches depot.old + (table_limit + 1) }
+    ensures accepted { IfOk result (λ scenarios. IfSome (D.files depot.old) (λ files. table_of files name.now ≡ good (table scenarios))) }
+    ensures good { IfOk result (λ scenarios. IsGood (table scenarios)) }
+    ensures stopped { IfErr result (StopsAt (D.files depot.old) (λ files. table_of files name.now)
+        (D.read_faults depot.old name.now) (D.read_faults depot.new name.now)) }
+{
+    let bytes = match read_whole(alloc, depot, name, TABLE_LIMIT) {
+        Ok(bytes) => bytes,
+        Err(fault) => return Err(stop_of(fault)),
+    };
+    match read_scenarios(alloc, bytes.as_slice()) {
+        Ok(scenarios) => Ok(scenarios),
+        Err(TableRefusal::NotTable) => Err(InputStop::Refused(Refusal::NotTable)),
+        Err(TableRefusal::NoMemory) => Err(InputStop::NoMemory),
+    }
+}
+
+// The stop of a file that was not read as a whole.
+fn stop_of(fault: WholeFault) -> InputStop
+    ensures { result ≡ stop_of fault }
+{
+    match fault {
+        WholeFault::Absent => InputStop::Unread,
+        WholeFault::Failed => InputStop::Unread,
+        WholeFault::TooLong => InputStop::Refused(Refusal::TooLong),
+        WholeFault::NoMemory => InputStop::NoMemory,
+    }
+}

@@ -1,0 +1,453 @@
+//! The parser: a script is read one token at a time, and each place in it says what is awaited there.
+
+ghost use Rattle.std.specs.Prelude.{◌≡◌, Some, None, IfOk, IsErrOf};
+ghost use Rattle.pay_fixed.specs.Decimal.{decimal_in};
+ghost use Rattle.pay_meaning.specs.Language.{binary as calculated};
+ghost use Rattle.pay_tree.specs.Names.{IsName};
+ghost use Rattle.pay_tree.specs.Views as tree_of;
+ghost use Rattle.pay_tool.specs.Reading as reading;
+ghost use Rattle.pay_tool.specs.Reading.{script_in};
+ghost use Rattle.pay_tool.specs.ReadingViews as view;
+ghost use Rattle.pay_tool.specs.ReadingViews.{Gives};
+
+use crate::token::{Digits, Key, Letters, Sign, Token};
+use pay_dates::Day;
+use pay_fixed::read_decimal;
+use pay_tree::{Binary, Expr, Item, Name, NameFault, Script, Stmt};
+use std::alloc::{AllocError, AllocFailed, Global};
+
+/// Why tokens were not read as a script.
+#[derive(Clone, Copy, PartialEq, Eq, Debug)]
+pub enum ParseFault {
+    /// The tokens are no script of the language.
+    NotScript,
+    /// There was no memory for the script's tree.
+    NoMemory,
+}
+
+impl From<AllocError> for ParseFault {
+    ghost use Rattle.std.specs.Prelude.{◌≡◌};
+    ghost use Rattle.pay_tool.specs.declared.parser.ParseFault.{ParseFault};
+
+    ghost from_gives = { λ _ fault. fault ≡ ParseFault.NoMemory };
+
+    fn from(_: AllocError) -> ParseFault {
+        ParseFault::NoMemory
+    }
+}
+
+impl<T: Drop> From<AllocFailed<T>> for ParseFault {
+    ghost use Rattle.std.specs.Prelude.{◌≡◌};
+    ghost use Rattle.pay_tool.specs.declared.parser.ParseFault.{ParseFault};
+
+    ghost from_gives = { λ _ fault. fault ≡ ParseFault.NoMemory };
+
+    fn from(_: AllocFailed<T>) -> ParseFault {
+        ParseFault::NoMemory
+    }
+}
+
+/// What a statement does with its number.
+#[derive(Drop)]
+enum Head {
+    /// It gives it to this variable.
+    Assigns(Name),
+    /// It pays it to this leg.
+    Pays(Name),
+}
+
+/// What stands left of an atom in its number.
+#[derive(Drop)]
+enum Left {
+    Nothing,
+    /// A number and `+`.
+    Plus(Expr),
+    /// A number and `-`.
+    Minus(Expr),
+}
+
+/// The place in a number.
+#[derive(Drop)]
+enum Mode {
+    /// An atom is awaited.
+    Want(Left),
+    /// Behind `spot`.
+    SpotNamed(Left),
+    /// Behind `spot (`.
+    SpotOpened(Left),
+    /// Behind an atom.
+    After(Left, Expr),
+}
+
+/// The place in a statement.
+#[derive(Drop)]
+enum Place {
+    /// Between statements.
+    Free,
+    /// Behind the name that begins a statement.
+    Named(Name),
+    /// In the number of a statement.
+    InNumber(Head, Mode),
+}
+
+/// The item that is being read, with the items before it.
+#[derive(Drop)]
+struct Open {
+    items: Vec<Item>,
+    date: Day,
+    body: Vec<Stmt>,
+}
+
+/// The place in a script.
+#[derive(Drop)]
+enum State {
+    /// No token was read.
+    Start,
+    /// In an item.
+    Inside(Open, Place),
+}
+
+/// The number of two numbers under an operator.
+fn binary(alloc: Global, operator: Binary, left: Expr, right: Expr) -> Result<Expr, ParseFault>
+    ensures { Gives tree_of.number result (Some (calculated (tree_of.operator operator) (tree_of.number left) (tree_of.number right))) }
+{
+    let left = Box::new(alloc, left)?;
+    let right = Box::new(alloc, right)?;
+    Ok(Expr::Binary(operator, left, right))
+}
+
+/// The number that an atom ends.
+fn joined(alloc: Global, left: Left, atom: Expr) -> Result<Expr, ParseFault>
+    ensures { Gives tree_of.number result (Some (reading.joined (view.left left) (tree_of.number atom))) }
+{
+    match left {
+        Left::Nothing => Ok(atom),
+        Left::Plus(before) => binary(alloc, Binary::Add, before, atom),
+        Left::Minus(before) => binary(alloc, Binary::Sub, before, atom),
+    }
+}
+
+/// The statement that a number ends.
+fn headed(head: Head, value: Expr) -> Stmt
+    ensures { tree_of.statement result ≡ reading.headed (view.head head) (tree_of.number value) }
+{
+    match head {
+        Head::Assigns(name) => Stmt::Assign { name, value },
+        Head::Pays(leg) => Stmt::Pay { leg, amount: value },
+    }
+}
+
+/// What is open, with one more statement.
+#[tactic(auto, using(crate::proofs::BodyLemmas::body_push))]
+fn with_statement(mut open: Open, statement: Stmt) -> Result<Open, ParseFault>
+    ensures { Gives view.opened result (Some (reading.with_statement (view.opened «open») (tree_of.statement statement))) }
+{
+    open.body.push(statement)?;
+    Ok(open)
+}
+
+/// What is open, with the statement that a number ends.
+fn with_number(open: Open, head: Head, value: Expr) -> Result<Open, ParseFault>
+    ensures { Gives view.opened result (Some (reading.with_statement (view.opened «open») (reading.headed (view.head head) (tree_of.number value)))) }
+{
+    with_statement(open, headed(head, value))
+}
+
+/// The items, with the one that is open.
+fn closed(open: Open) -> Result<Vec<Item>, ParseFault>
+    ensures { Gives view.items result (Some (reading.closed (view.opened «open»))) }
+{
+    let Open {
+        mut items,
+        date,
+        body,
+    } = open;
+    items.push(Item::Plain { date, body })?;
+    Ok(items)
+}
+
+/// The place behind the date of a new item.
+fn dated(alloc: Global, items: Vec<Item>, date: Day) -> State
+    ensures { view.state result ≡ reading.dated (view.items items) date }
+{
+    let body = Vec::new(alloc);
+    State::Inside(Open { items, date, body }, Place::Free)
+}
+
+/// The name that letters are.
+fn name_of(alloc: Global, letters: &Letters) -> Result<Name, ParseFault>
+    ensures name { IfOk result (λ name. (name ≡ letters.now) × IsName letters.now) }
+    ensures refused { IsErrOf result ParseFault.NotScript → ¬ IsName letters.now }
+{
+    match Name::read(alloc, letters.bytes()) {
+        Ok(name) => Ok(name),
+        Err(NameFault::NotName) => Err(ParseFault::NotScript),
+        Err(NameFault::NoMemory) => Err(ParseFault::NoMemory),
+    }
+}
+
+/// The place behind the name that begins a statement.
+fn step_word(alloc: Global, open: Open, letters: &Letters) -> Result<State, ParseFault>
+    ensures { Gives view.state result (reading.step_word (view.opened «open») letters.now) }
+{
+    let name = name_of(alloc, letters)?;
+    Ok(State::Inside(open, Place::Named(name)))
+}
+
+/// The place behind the first token of a script: a date begins an item.
+fn step_start(alloc: Global, token: &Token) -> Result<State, ParseFault>
+    ensures { Gives view.state result (reading.step_start token.now) }
+{
+    match token {
+        Token::Date(date) => Ok(dated(alloc, Vec::new(alloc), *date)),
+        _ => Err(ParseFault::NotScript),
+    }
+}
+
+/// The place behind a token between statements: a date begins an item, and a name a statement.
+fn step_free(alloc: Global, open: Open, token: &Token) -> Result<State, ParseFault>
+    ensures { Gives view.state result (reading.step_free (view.opened «open») token.now) }
+{
+    match token {
+        Token::Date(date) => {
+            let items = closed(open)?;
+            Ok(dated(alloc, items, *date))
+        }
+        Token::Word(letters) => step_word(alloc, open, letters),
+        _ => Err(ParseFault::NotScript),
+    }
+}
+
+/// The place behind a token that stands behind a statement's name: `=` or `pays`.
+fn step_named(open: Open, name: Name, token: &Token) -> Result<State, ParseFault>
+    ensures { Gives view.state result (reading.step_named (view.opened «open») name token.now) }
+{
+    match token {
+        Token::Sign(Sign::Equals) => {
+            Ok(State::Inside(
+                open,
+                Place::InNumber(Head::Assigns(name), Mode::Want(Left::Nothing)),
+            ))
+        }
+        Token::Key(Key::Pays) => {
+            Ok(State::Inside(
+                open,
+                Place::InNumber(Head::Pays(name), Mode::Want(Left::Nothing)),
+            ))
+        }
+        _ => Err(ParseFault::NotScript),
+    }
+}
+
+/// The place behind a number token.
+fn step_literal(open: Open, head: Head, left: Left, digits: &Digits) -> Result<State, ParseFault>
+    ensures { Gives view.state result (reading.step_literal (view.opened «open») (view.head head) (view.left left) (decimal_in digits.now)) }
+{
+    match read_decimal(digits.bytes()) {
+        Ok(raw) => Ok(State::Inside(
+            open,
+            Place::InNumber(head, Mode::After(left, Expr::Number(raw))),
+        )),
+        Err(_) => Err(ParseFault::NotScript),
+    }
+}
+
+/// The place behind a name in a number.
+fn step_variable(
+    alloc: Global,
+    open: Open,
+    head: Head,
+    left: Left,
+    letters: &Letters,
+) -> Result<State, ParseFault>
+    ensures { Gives view.state result (reading.step_variable (view.opened «open») (view.head head) (view.left left) letters.now) }
+{
+    let name = name_of(alloc, letters)?;
+    Ok(State::Inside(
+        open,
+        Place::InNumber(head, Mode::After(left, Expr::Name(name))),
+    ))
+}
+
+/// The place behind a token where an atom is awaited: a number token with a value, a name, or `spot`.
+fn step_want(
+    alloc: Global,
+    open: Open,
+    head: Head,
+    left: Left,
+    token: &Token,
+) -> Result<State, ParseFault>
+    ensures { Gives view.state result (reading.step_want (view.opened «open») (view.head head) (view.left left) token.now) }
+{
+    match token {
+        Token::Number(digits) => step_literal(open, head, left, digits),
+        Token::Word(letters) => step_variable(alloc, open, head, left, letters),
+        Token::Key(Key::Spot) => Ok(State::Inside(
+            open,
+            Place::InNumber(head, Mode::SpotNamed(left)),
+        )),
+        _ => Err(ParseFault::NotScript),
+    }
+}
+
+/// The place behind a token that stands behind `spot`: `(`.
+fn step_spot_named(open: Open, head: Head, left: Left, token: &Token) -> Result<State, ParseFault>
+    ensures { Gives view.state result (reading.step_spot_named (view.opened «open») (view.head head) (view.left left) token.now) }
+{
+    match token {
+        Token::Sign(Sign::ParenLeft) => Ok(State::Inside(
+            open,
+            Place::InNumber(head, Mode::SpotOpened(left)),
+        )),
+        _ => Err(ParseFault::NotScript),
+    }
+}
+
+/// The place behind a token that stands behind `spot (`: `)`.
+fn step_spot_opened(open: Open, head: Head, left: Left, token: &Token) -> Result<State, ParseFault>
+    ensures { Gives view.state result (reading.step_spot_opened (view.opened «open») (view.head head) (view.left left) token.now) }
+{
+    match token {
+        Token::Sign(Sign::ParenRight) => Ok(State::Inside(
+            open,
+            Place::InNumber(head, Mode::After(left, Expr::Spot)),
+        )),
+        _ => Err(ParseFault::NotScript),
+    }
+}
+
+/// The place behind a token that stands behind a number: the number goes on, or its statement ends.
+fn step_after(
+    alloc: Global,
+    open: Open,
+    head: Head,
+    value: Expr,
+    token: &Token,
+) -> Result<State, ParseFault>
+    ensures { Gives view.state result (reading.step_after (view.opened «open») (view.head head) (tree_of.number value) token.now) }
+{
+    match token {
+        Token::Sign(Sign::Plus) => Ok(State::Inside(
+            open,
+            Place::InNumber(head, Mode::Want(Left::Plus(value))),
+        )),
+        Token::Sign(Sign::Minus) => Ok(State::Inside(
+            open,
+            Place::InNumber(head, Mode::Want(Left::Minus(value))),
+        )),
+        Token::Sign(Sign::Semicolon) => {
+            let open = with_number(open, head, value)?;
+            Ok(State::Inside(open, Place::Free))
+        }
+        Token::Date(_) => {
+            let open = with_number(open, head, value)?;
+            step_free(alloc, open, token)
+        }
+        Token::Word(_) => {
+            let open = with_number(open, head, value)?;
+            step_free(alloc, open, token)
+        }
+        _ => Err(ParseFault::NotScript),
+    }
+}
+
+/// The place behind a token in a number.
+fn step_number(
+    alloc: Global,
+    open: Open,
+    head: Head,
+    mode: Mode,
+    token: &Token,
+) -> Result<State, ParseFault>
+    ensures { Gives view.state result (reading.step_number (view.opened «open») (view.head head) (view.mode mode) token.now) }
+{
+    match mode {
+        Mode::Want(left) => step_want(alloc, open, head, left, token),
+        Mode::SpotNamed(left) => step_spot_named(open, head, left, token),
+        Mode::SpotOpened(left) => step_spot_opened(open, head, left, token),
+        Mode::After(left, atom) => {
+            let value = joined(alloc, left, atom)?;
+            step_after(alloc, open, head, value, token)
+        }
+    }
+}
+
+/// The place behind a token in an item.
+fn step_inside(alloc: Global, open: Open, place: Place, token: &Token) -> Result<State, ParseFault>
+    ensures { Gives view.state result (reading.step_inside (view.opened «open») (view.place place) token.now) }
+{
+    match place {
+        Place::Free => step_free(alloc, open, token),
+        Place::Named(name) => step_named(open, name, token),
+        Place::InNumber(head, mode) => step_number(alloc, open, head, mode, token),
+    }
+}
+
+/// The place behind one more token.
+fn step(alloc: Global, state: State, token: &Token) -> Result<State, ParseFault>
+    ensures { Gives view.state result (reading.step (view.state state) token.now) }
+{
+    match state {
+        State::Start => step_start(alloc, token),
+        State::Inside(open, place) => step_inside(alloc, open, place, token),
+    }
+}
+
+/// The items of a script that ends in a number.
+fn finish_number(alloc: Global, open: Open, head: Head, mode: Mode) -> Result<Vec<Item>, ParseFault>
+    ensures { Gives view.items result (reading.finish_number (view.opened «open») (view.head head) (view.mode mode)) }
+{
+    match mode {
+        Mode::After(left, atom) => {
+            let value = joined(alloc, left, atom)?;
+            closed(with_number(open, head, value)?)
+        }
+        _ => Err(ParseFault::NotScript),
+    }
+}
+
+/// The items of a script that ends in an item.
+fn finish_inside(alloc: Global, open: Open, place: Place) -> Result<Vec<Item>, ParseFault>
+    ensures { Gives view.items result (reading.finish_inside (view.opened «open») (view.place place)) }
+{
+    match place {
+        Place::Free => closed(open),
+        Place::Named(_) => Err(ParseFault::NotScript),
+        Place::InNumber(head, mode) => finish_number(alloc, open, head, mode),
+    }
+}
+
+/// The items of a script that ends here.
+fn finish(alloc: Global, state: State) -> Result<Vec<Item>, ParseFault>
+    ensures { Gives view.items result (reading.finish (view.state state)) }
+{
+    match state {
+        State::Start => Ok(Vec::new(alloc)),
+        State::Inside(open, place) => finish_inside(alloc, open, place),
+    }
+}
+
+/// The items of the script that the tokens are.
+#[tactic(auto, unfolding(crate::specs::Reading::script_in))]
+fn read_items(alloc: Global, tokens: &[Token]) -> Result<Vec<Item>, ParseFault>
+    ensures { Gives view.items result (script_in tokens.now) }
+{
+    let mut state = State::Start;
+    for token in tokens {
+        state = step(alloc, state, token)?;
+    }
+    finish(alloc, state)
+}
+
+/// The script that the tokens are, read from the front to the end, each token once.
+///
+/// # Errors
+///
+/// `NotScript` where the tokens are no script: no script is spelled by them. `NoMemory` where there was no memory for the tree.
+pub fn parse(alloc: Global, tokens: &[Token]) -> Result<Script, ParseFault>
+    ensures spelled { IfOk result (λ tree. script_in tokens.now ≡ Some (tree_of.script tree)) }
+    ensures refused { IsErrOf result ParseFault.NotScript → script_in tokens.now ≡ None }
+{
+    let items = read_items(alloc, tokens)?;
+    Ok(Script { items })
+}

@@ -1,0 +1,123 @@
+//! The report, put in pieces.
+
+ghost use Rattle.std.specs.Prelude.{◌≡◌, ◌≤◌, OnOk, IsErrOf, IsTrue, All, length, map};
+ghost use Rattle.std.specs.List.{flat_map};
+ghost use Rattle.pay_edge.specs.Edge.{Rose, appended, AppendsFront};
+ghost use Rattle.pay_tree.specs.Views.{event};
+ghost use Rattle.pay_tool.specs.Columns.{columns_of};
+ghost use Rattle.pay_tool.specs.Report.{row_lines, report_text};
+ghost use Rattle.pay_tool.specs.Tables.{are_distinct, IsGood};
+ghost use Rattle.pay_tool.specs.TableViews.{row, table};
+
+use crate::run_row::{columns_of_events, write_row_lines};
+use crate::scenarios::{ScenarioRow, Scenarios};
+use pay_dates::Day;
+use pay_edge::Sink;
+use pay_tree::NamedEvent;
+use std::alloc::Global;
+
+// The first line of a report.
+const HEADER_LINE: &[u8] = b"scenario,date,leg,amount\n";
+
+// The last line of a report.
+const LAST_LINE: &[u8] = b"#nodes,,,\n";
+
+/// Why a report was not put whole.
+#[derive(Clone, Copy, PartialEq, Eq, Debug)]
+pub enum PutStop {
+    /// A put failed, and the count of the sink's faults rose.
+    Failed,
+    /// There was no memory.
+    NoMemory,
+}
+
+/// Puts the report of events over a table of scenarios: the header, the lines of each scenario that has lines, in one
+/// piece each, and the last line.
+///
+/// # Errors
+///
+/// `Failed` where a put failed, `NoMemory` where there was no memory. A front of the report was then put.
+pub fn put_report<O: Sink>(
+    alloc: Global,
+    events: &[NamedEvent],
+    scenarios: &Scenarios,
+    out: &mut O,
+) -> Result<(), PutStop>
+    requires { IsGood (table scenarios.now) }
+    ensures ok { OnOk result (O.text out.new ≡ appended (O.text out.old) (report_text (map event events.now) (table scenarios.now))) }
+    ensures front { AppendsFront (O.text out.old) (O.text out.new) (report_text (map event events.now) (table scenarios.now)) }
+    ensures failed { IsErrOf result PutStop.Failed → Rose (O.faults out.old) (O.faults out.new) }
+    ensures never_falls { O.faults out.old ≤ O.faults out.new }
+{
+    let dates = scenarios.dates.as_slice();
+    let rows = scenarios.rows.as_slice();
+    let Ok(columns) = columns_of_events(alloc, events, dates) else {
+        return Err(PutStop::NoMemory);
+    };
+    put_piece(out, HEADER_LINE)?;
+    put_rows(alloc, events, columns.as_slice(), dates, rows, out)?;
+    put_piece(out, LAST_LINE)
+}
+
+// Puts one piece.
+fn put_piece<O: Sink>(out: &mut O, piece: &[u8]) -> Result<(), PutStop>
+    ensures ok { OnOk result (O.text out.new ≡ appended (O.text out.old) piece.now) }
+    ensures front { AppendsFront (O.text out.old) (O.text out.new) piece.now }
+    ensures failed { IsErrOf result PutStop.Failed → Rose (O.faults out.old) (O.faults out.new) }
+    ensures never_falls { O.faults out.old ≤ O.faults out.new }
+{
+    match out.put(piece) {
+        Ok(()) => Ok(()),
+        Err(_) => Err(PutStop::Failed),
+    }
+}
+
+// Puts the lines of one scenario, if it has any.
+fn put_row<O: Sink>(
+    alloc: Global,
+    events: &[NamedEvent],
+    columns: &[Option<usize>],
+    dates: &[Day],
+    scenario: &ScenarioRow,
+    out: &mut O,
+) -> Result<(), PutStop>
+    requires distinct { IsTrue (are_distinct dates.now) }
+    requires aligned { columns.now ≡ columns_of dates.now (map event events.now) }
+    requires full { length scenario.now.cells.items ≡ length dates.now }
+    ensures ok { OnOk result (O.text out.new ≡ appended (O.text out.old) (row_lines (map event events.now) dates.now (row scenario.now))) }
+    ensures front { AppendsFront (O.text out.old) (O.text out.new) (row_lines (map event events.now) dates.now (row scenario.now)) }
+    ensures failed { IsErrOf result PutStop.Failed → Rose (O.faults out.old) (O.faults out.new) }
+    ensures never_falls { O.faults out.old ≤ O.faults out.new }
+{
+    let mut lines = Vec::new(alloc);
+    if write_row_lines(alloc, events, columns, dates, scenario, &mut lines).is_err() {
+        return Err(PutStop::NoMemory);
+    }
+    if lines.is_empty() {
+        return Ok(());
+    }
+    put_piece(out, lines.as_slice())
+}
+
+// Puts the lines of scenarios in their order.
+fn put_rows<O: Sink>(
+    alloc: Global,
+    events: &[NamedEvent],
+    columns: &[Option<usize>],
+    dates: &[Day],
+    rows: &[ScenarioRow],
+    out: &mut O,
+) -> Result<(), PutStop>
+    requires distinct { IsTrue (are_distinct dates.now) }
+    requires aligned { columns.now ≡ columns_of dates.now (map event events.now) }
+    requires full { All (λ scenario. length scenario.cells ≡ length dates.now) (map row rows.now) }
+    ensures ok { OnOk result (O.text out.new ≡ appended (O.text out.old) (flat_map (row_lines (map event events.now) dates.now) (map row rows.now))) }
+    ensures front { AppendsFront (O.text out.old) (O.text out.new) (flat_map (row_lines (map event events.now) dates.now) (map row rows.now)) }
+    ensures failed { IsErrOf result PutStop.Failed → Rose (O.faults out.old) (O.faults out.new) }
+    ensures never_falls { O.faults out.old ≤ O.faults out.new }
+{
+    for scenario in rows {
+        put_row(alloc, events, columns, dates, scenario, out)?;
+    }
+    Ok(())
+}

@@ -1,0 +1,79 @@
+//! What the words of a command line ask for.
+
+ghost use Rattle.std.specs.Prelude.{◌≡◌, IfOk, IfErr, Some, [], ◌∷◌};
+ghost use Rattle.pay_tool.specs.Requests.{request_of, asked_in};
+ghost use Rattle.pay_tool.specs.RequestViews.{asked_by, StopsWords};
+
+use crate::file_name::FileName;
+use std::alloc::Global;
+
+/// A command with the files that it names.
+#[derive(Drop)]
+pub enum Request {
+    /// The payments of a script in each scenario of a file.
+    Run(RunWords),
+}
+
+/// The files of the command `run`.
+#[derive(Drop)]
+pub struct RunWords {
+    /// The file of the script.
+    pub script: FileName,
+    /// The file of the scenarios.
+    pub scenarios: FileName,
+}
+
+/// Why words gave no request.
+#[derive(Clone, Copy, PartialEq, Eq, Debug)]
+pub enum WordsFault {
+    /// The words are no request.
+    NotRequest,
+    /// There was no memory for the names.
+    NoMemory,
+}
+
+/// The request of the words behind a program's name: `run`, a script file and a scenario file.
+///
+/// # Errors
+///
+/// `NotRequest` where the words are no request, `NoMemory` where there was no memory for the names of the files.
+#[tactic(auto, unfolding(crate::specs::Requests::request_of))]
+pub fn request_of_words(alloc: Global, words: &Vec<String>) -> Result<Request, WordsFault>
+    ensures request { IfOk result (λ request. asked_in words.now ≡ Some (asked_by request)) }
+    ensures stopped { IfErr result (StopsWords (asked_in words.now)) }
+{
+    match words.as_slice() {
+        [command, script, scenarios] => run_request(
+            alloc,
+            command.as_str(),
+            script.as_str(),
+            scenarios.as_str(),
+        ),
+        _ => Err(WordsFault::NotRequest),
+    }
+}
+
+// The request of three words.
+#[tactic(auto, unfolding(crate::specs::Requests::request_of))]
+fn run_request(
+    alloc: Global,
+    command: &str,
+    script: &str,
+    scenarios: &str,
+) -> Result<Request, WordsFault>
+    ensures request { IfOk result (λ request. request_of (command.now ∷ script.now ∷ scenarios.now ∷ []) ≡ Some (asked_by request)) }
+    ensures stopped { IfErr result (StopsWords (request_of (command.now ∷ script.now ∷ scenarios.now ∷ []))) }
+{
+    if command != "run" {
+        return Err(WordsFault::NotRequest);
+    }
+    let script = match FileName::read(alloc, script) {
+        Ok(script) => script,
+        Err(fault) => return Err(fault),
+    };
+    let scenarios = match FileName::read(alloc, scenarios) {
+        Ok(scenarios) => scenarios,
+        Err(fault) => return Err(fault),
+    };
+    Ok(Request::Run(RunWords { script, scenarios }))
+}

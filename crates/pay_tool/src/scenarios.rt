@@ -1,0 +1,118 @@
+//! A table of scenarios in memory.
+
+ghost use Rattle.std.specs.Prelude.{◌≡◌, ◌||◌};
+ghost use Rattle.std.specs.List.{list_all};
+ghost use Rattle.pay_tree.specs.Names.{is_digit, is_letter};
+ghost use Rattle.pay_tool.specs.Tables.{is_capital, is_label, is_label_byte};
+
+use pay_dates::Day;
+use pay_fixed::Fixed;
+use std::alloc::Global;
+use std::marker::Model;
+
+/// The label of a scenario: 1 to 64 letters, digits, `_`, `.` and `-`.
+#[derive(Drop)]
+pub struct Label {
+    bytes: Vec<u8>,
+}
+
+impl Model for Label {
+    ghost use Rattle.std.specs.Prelude.{ℕ, List, IsTrue};
+    ghost use Rattle.pay_tool.specs.Tables.{is_label};
+
+    ghost Value = { List ℕ };
+
+    ghost view = { λ label. label.bytes.items };
+
+    ghost invariant = { λ label. IsTrue (is_label label.bytes.items) };
+}
+
+/// Why bytes were not read as a label.
+#[derive(Clone, Copy, PartialEq, Eq, Debug)]
+pub enum LabelFault {
+    /// The bytes are no label.
+    NotLabel,
+    /// There was no memory for the label.
+    NoMemory,
+}
+
+/// Whether the byte is an ASCII letter or `_`.
+fn is_letter(byte: u8) -> bool
+    ensures { result ≡ (is_letter byte || is_capital byte) }
+{
+    (b'a' <= byte && byte <= b'z') || byte == b'_' || (b'A' <= byte && byte <= b'Z')
+}
+
+/// Whether the byte is a letter, a digit, `_`, `.` or `-`.
+fn is_label_byte(byte: u8) -> bool
+    ensures { result ≡ is_label_byte byte }
+{
+    is_letter(byte) || (b'0' <= byte && byte <= b'9') || byte == b'.' || byte == b'-'
+}
+
+/// Whether each byte is a letter, a digit, `_`, `.` or `-`.
+fn are_label_bytes(bytes: &[u8]) -> bool
+    ensures { result ≡ list_all is_label_byte bytes.now }
+{
+    let mut rest = bytes;
+    while let [byte, tail @ ..] = rest {
+        if !is_label_byte(*byte) {
+            return false;
+        }
+        rest = tail;
+    }
+    true
+}
+
+/// Whether the bytes are 1 to 64 letters, digits, `_`, `.` and `-`.
+#[tactic(auto, unfolding(crate::specs::Tables::is_label))]
+fn is_label(bytes: &[u8]) -> bool
+    ensures { result ≡ is_label bytes.now }
+{
+    1 <= bytes.len() && bytes.len() <= 64 && are_label_bytes(bytes)
+}
+
+impl Label {
+    ghost use Rattle.std.specs.Prelude.{◌≡◌, IsTrue, IsErrOf, IfOk, OnOk, false};
+    ghost use Rattle.pay_tool.specs.Tables.{is_label};
+
+    /// The label with these bytes.
+    ///
+    /// `NotLabel` where they are not 1 to 64 letters, digits, `_`, `.` and `-`; `NoMemory` where
+    /// there is no memory for a copy of them.
+    pub fn read(alloc: Global, bytes: &[u8]) -> Result<Label, LabelFault>
+        ensures read { IfOk result (λ label. label ≡ bytes.now) }
+        ensures label { OnOk result (IsTrue (is_label bytes.now)) }
+        ensures not_label { IsErrOf result LabelFault.NotLabel → is_label bytes.now ≡ false }
+    {
+        if !is_label(bytes) {
+            return Err(LabelFault::NotLabel);
+        }
+        match Vec::from_slice(alloc, bytes) {
+            Ok(copy) => Ok(Label { bytes: copy }),
+            Err(_) => Err(LabelFault::NoMemory),
+        }
+    }
+
+    /// The bytes of the label.
+    pub fn bytes(&self) -> &[u8]
+        ensures value { result.now ≡ self.now }
+        ensures label { IsTrue (is_label result.now) }
+    {
+        self.bytes.as_slice()
+    }
+}
+
+/// A scenario: its label, and a fixing or nothing for each date.
+#[derive(Drop)]
+pub struct ScenarioRow {
+    pub label: Label,
+    pub cells: Vec<Option<Fixed>>,
+}
+
+/// A table of scenarios: the dates of its columns, and its rows in the order of the file.
+#[derive(Drop)]
+pub struct Scenarios {
+    pub dates: Vec<Day>,
+    pub rows: Vec<ScenarioRow>,
+}

@@ -1,0 +1,68 @@
+//! The variables of a run.
+
+ghost use Rattle.std.specs.Prelude.{◌≡◌, OnOk, pos};
+ghost use Rattle.std.specs.FinMap.{insert};
+ghost use Rattle.pay_meaning.specs.Meaning.{no_variables, value_of};
+
+use pay_fixed::{Fixed, NoMemory};
+use pay_tree::Name;
+use std::alloc::Global;
+use std::collections::BTreeMap;
+use std::marker::Model;
+
+/// The variables that were assigned, each with its number.
+#[derive(Drop)]
+pub struct Variables<'a> {
+    numbers: BTreeMap<&'a Name, Fixed>,
+}
+
+impl<'a> Model for Variables<'a> {
+    ghost use Rattle.std.specs.Coded.{coded_list, coded_ℕ, coded_ℤ};
+    ghost use Rattle.std.specs.FinMap.{code};
+    ghost use Rattle.pay_meaning.specs.Meaning.{Variables as Meant};
+    ghost use Rattle.pay_tool.specs.Assigned.{variables_of};
+
+    ghost Value = { Meant };
+
+    ghost coded = { code (coded_list coded_ℕ) coded_ℤ };
+
+    ghost view = { λ variables. variables_of variables.numbers.entries };
+}
+
+/// The number 0.
+fn zero() -> Fixed
+    ensures { result ≡ pos 0 }
+{
+    Fixed::from_raw(0).unwrap()
+}
+
+impl<'a> Variables<'a> {
+    /// No variable is assigned yet.
+    pub fn new(alloc: Global) -> Self
+        ensures { result ≡ no_variables }
+    {
+        Variables {
+            numbers: BTreeMap::new(alloc),
+        }
+    }
+
+    /// The number of a variable; 0 where it was never assigned.
+    pub fn value(&self, name: &'a Name) -> Fixed
+        ensures { result ≡ value_of self.now name.now }
+    {
+        match self.numbers.get(&name) {
+            Some(number) => *number,
+            None => zero(),
+        }
+    }
+
+    /// Gives a variable this number.
+    pub fn assign(&mut self, name: &'a Name, number: Fixed) -> Result<(), NoMemory>
+        ensures { OnOk result (self.new ≡ insert self.old name.now number) }
+    {
+        match self.numbers.insert(name, number) {
+            Ok(_) => Ok(()),
+            Err(_) => Err(NoMemory),
+        }
+    }
+}
