@@ -1,3 +1,5 @@
+//! Why an event faults.
+
 /// Why an event faults, and with it its scenario.
 #[derive(Clone, Copy, PartialEq, Eq, Debug)]
 pub enum FaultKind {

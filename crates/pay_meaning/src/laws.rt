@@ -1,3 +1,5 @@
+//! Laws of the meaning and of events in order. Each function is empty: what it ensures is the law.
+
 ghost use Rattle.pay_meaning.specs.Laws.{MeaningOfParts, MeaningReadsOwnDates, OrderIsUnique, SharedDateIsEarliest};
 
 /// The meaning of a list of events is that of its front, and then that of the rest from the front's last variables.

@@ -1,4 +1,15 @@
-//! The language and its direct meaning.
+//! The language of scripts as plain data, and what a script means.
+//!
+//! This is what a reader must believe; everything that reads, runs or reports scripts is proved against it. It is nearly
+//! all definitions, and hardly any code:
+//!
+//! - `specs/Language.antt`: numbers, statements, bodies, events, items and scripts, with no pointers and no places in a text.
+//! - `specs/Meaning.antt`: the value of a number, the effect of statements, and the meaning of events in order: their
+//!   payments, and how they end. An event that faults pays nothing and ends its scenario; earlier payments stand.
+//! - `specs/Events.antt`: the events of a script in order of date, and the date that two of them share.
+//! - [`laws`]: what shows that these definitions are the ones meant, each the contract of a function with an empty body.
+//!
+//! [`FaultKind`] is the only type of the code here: why an event faults.
 #![tactic(auto)]
 
 mod fault;
