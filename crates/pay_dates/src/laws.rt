@@ -1,3 +1,6 @@
+//! Laws that show the definitions of a day's text and number to be the ones meant. Each stands on a function with an
+//! empty body; the function's clauses are the law.
+
 ghost use Rattle.pay_dates.specs.Laws.{TextHasTenBytes, TextReadsBack, ReadingIsText, NumberNamesDay, EarlierIsSmaller};
 
 /// The law of texts: the text of each day has ten bytes and reads as that day, and a text that

@@ -1,3 +1,5 @@
+//! One test of the calls on days.
+
 use crate::{Day, day_number_orders, day_text_reads_back, read_day, write_day};
 use std::test::Fail;
 
