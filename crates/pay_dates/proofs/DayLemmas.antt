@@ -1,22 +1,22 @@
 -- Lemmas on the texts and numbers of days, for the crates above too.
-use Rattle.std.proofs.Common.{◌≡◌, ℕ, ◌+◌, ◌-◌, ◌*◌, ◌/◌, ◌%◌, ◌<◌, ◌≤◌, ℤ, pos, negsuc, Bool, true, false, List, [], ◌∷◌, length, slice_index, Option, Some, None, refl, sym, ap, ◌∙◌, arith, ◌&&◌, drop, inl, inr, eqb-true}
+use Rattle.std.proofs.Common.{◌≡◌, ℕ, ◌+◌, ◌-◌, ◌*◌, ◌/◌, ◌%◌, ◌<◌, ◌≤◌, ℤ, pos, negsuc, neg_ℤ, ◌+ℤ◌, ◌≤ℤ◌, Bool, true, false, List, [], ◌∷◌, length, slice_index, Option, Some, None, refl, sym, ap, ◌∙◌, arith, ◌&&◌, drop, inl, inr, eqb-true}
 use Rattle.std.specs.Prelude.{IsTrue, IsSome, IfSome, ◌↔◌}
 use Rattle.std.proofs.lemmas.Bool.{cases_Bool, false≢true}
 use Rattle.std.proofs.lemmas.Option.{same_Some}
 use Rattle.std.proofs.lemmas.Bool.Decides.{nat_tests, Decides-int_eq}
 use Rattle.jiff_core.proofs.SignedLemmas.{signed_arith}
-use Rattle.jiff_core.specs.Calendar.{IsCivilDate, day_count}
-use Rattle.jiff_core.proofs.CalendarLemmas.{days_in_month_bounds, days_from_civil-day_count, day_count-lt_year, day_count-later_year, day_count-day_of_year}
+use Rattle.jiff_core.specs.Calendar.{IsCivilDate, day_count, days_from_civil}
+use Rattle.jiff_core.proofs.CalendarLemmas.{days_in_month_bounds, day_count-epoch, days_from_civil-day_count, day_count-lt_year, day_count-later_year, day_count-day_of_year}
 use Rattle.jiff_core.proofs.MarchLemmas.{day_count-early}
 use Rattle.std.proofs.lemmas.Int.{by_lt_z}
 use Rattle.std.specs.Ordering.{int_eq}
-use Rattle.jiff.proofs.Family.{same_date, epoch_day_same, epoch_day-lt}
+use Rattle.jiff.proofs.Family.{same_date, epoch_day_same, epoch_day-lt, days_from_civil-day, days_from_civil-next_month, days_from_civil-next_year}
 use Rattle.pay_dates.specs.Days.{Date, IsDay, IsNumberOfRange, day_text, day_number, day_in, day_of, day_if, is_day_of, IsDayOf, has_form, two_at, year_at, IsYearOfRange, IsDayByte}
 use Rattle.std.specs.List.{All, Contains, AllByRecursion as ByRecursion}
 use Rattle.std.proofs.lemmas.List.Elements.{All-same, All-from_recursion, All-contains}
 use Rattle.pay_dates.specs.Parts.{is_digit, both_true, in_range}
 use Rattle.std.proofs.Math.Seq.{drop-cons, drop-length}
-use Rattle.pay_dates.specs.Laws.{TextHasTenBytes, TextReadsBack, ReadingIsText, NumberNamesDay, EarlierIsSmaller}
+use Rattle.pay_dates.specs.Laws.{TextHasTenBytes, TextReadsBack, ReadingIsText, NumberNamesDay, EarlierIsSmaller, EpochIsZero, IsNextOfMonth, BeginsNextMonth, BeginsNextYear, NextIsOneMore}
 use Rattle.pay_dates.proofs.PartsLemmas.{is_day_of-true, IsDayOf-test, is_day_of-parts, year_low, year_high}
 
 -- dates with one number are one date
@@ -55,6 +55,37 @@ day_number-range d h =
 -- an earlier date has a smaller number
 pub earlier_is_smaller : EarlierIsSmaller
 earlier_is_smaller a b h = epoch_day-lt a b h
+
+-- 1 January 1970 has the number 0
+pub epoch_is_zero : EpochIsZero
+epoch_is_zero d year month day =
+    let same : days_from_civil d.year d.month d.day ≡ days_from_civil (pos 1970) 1 1 = rw (year, month, day) in
+    let zero : days_from_civil (pos 1970) 1 1 ≡ pos 0 = omega (arith, signed_arith, days_from_civil-day_count (pos 1970) 1 1, day_count-epoch) in
+    same ∙ zero
+
+next_of_month : (a b : Date) → IsNextOfMonth a b → day_number b ≡ day_number a +ℤ pos 1
+next_of_month a b e =
+    let here : days_from_civil b.year b.month b.day ≡ days_from_civil a.year a.month b.day = rw (e.0, e.1) in
+    let step = days_from_civil-day a.year a.month a.day b.day a.day_in.0 b.day_in.0 in
+    omega (arith, signed_arith, here, e.2, step)
+
+begins_next_month : (a b : Date) → BeginsNextMonth a b → day_number b ≡ day_number a +ℤ pos 1
+begins_next_month a b e =
+    let here : days_from_civil b.year b.month b.day ≡ days_from_civil a.year (a.month + 1) 1 = rw (e.0, e.1, e.2) in
+    here ∙ days_from_civil-next_month a.year a.month a.day a.month_in.0 e.3
+
+begins_next_year : (a b : Date) → BeginsNextYear a b → day_number b ≡ day_number a +ℤ pos 1
+begins_next_year a b e =
+    let here : days_from_civil b.year b.month b.day ≡ days_from_civil b.year 1 1 = rw (e.3, e.4) in
+    let there : days_from_civil a.year a.month a.day ≡ days_from_civil a.year 12 31 = rw (e.1, e.2) in
+    let low : neg_ℤ (pos 10000) ≤ℤ a.year = omega (arith, signed_arith, a.year_in.0) in
+    here ∙ days_from_civil-next_year a.year b.year low e.0 ∙ ap (λ z. z +ℤ pos 1) (sym there)
+
+-- the day after a day has the next number
+pub next_is_one_more : NextIsOneMore
+next_is_one_more a b (inl e) = next_of_month a b e
+next_is_one_more a b (inr (inl e)) = begins_next_month a b e
+next_is_one_more a b (inr (inr e)) = begins_next_year a b e
 
 day_if-some : (y m d : ℕ) (a : Date) (test : Bool) (e : is_day_of y m d ≡ test) → is_day_of y m d ≡ true → a.year ≡ pos y → a.month ≡ m → a.day ≡ d → day_if y m d test e ≡ Some a
 day_if-some y m d a true e h year month day = ap (λ (x : Date). Some x) (same_parts _ a (sym year) (sym month) (sym day))

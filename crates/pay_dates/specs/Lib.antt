@@ -1,3 +1,4 @@
+-- What the contracts of `pay_dates` cite.
 pub mod Days
 pub mod Laws
 pub mod Parts

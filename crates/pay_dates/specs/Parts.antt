@@ -38,9 +38,11 @@ year_in y m d e =
     let small : y ≤ 9999 = le_trans year.1 (lit≤ tt) in
     (le_z_yes tt, le_z_yes (le→leb y 9999 small))
 
+-- a month that passed the test is one of twelve
 pub month_in : (y m d : ℕ) → is_day_of y m d ≡ true → IsInRange 1 12 m
 month_in y m d e = in_range 1 12 m (both_true _ _ (both_true _ _ e).1).0
 
+-- a day that passed the test is one that its month has
 pub day_in_month : (y m d : ℕ) → is_day_of y m d ≡ true → IsInRange 1 (days_in_month (pos y) m) d
 day_in_month y m d e = in_range 1 (days_in_month (pos y) m) d (both_true _ _ (both_true _ _ e).1).1
 

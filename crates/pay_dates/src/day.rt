@@ -1,3 +1,5 @@
+//! The day: its parts, and its number.
+
 ghost use Rattle.std.specs.Prelude.{◌≡◌, ◌↔◌, pos, IsSome, IfSome};
 ghost use Rattle.pay_dates.specs.Days.{IsDay, IsDayOf, IsNumberOfRange, day_number};
 
@@ -27,7 +29,7 @@ impl Model for Day {
 impl Day {
     /// The day with this year, month (from 1) and day of the month (from 1).
     ///
-    /// `None` where the calendar has no such day, or where its year is not from 1900 to 2199.
+    /// `None` exactly where the calendar has no such day, or where its year is not from 1900 to 2199.
     pub fn new(year: u16, month: u8, day: u8) -> Option<Day>
         ensures some { IsSome result ↔ IsDayOf year month day }
         ensures parts { IfSome result (λ d. (d.year ≡ pos year) × (d.month ≡ month) × (d.day ≡ day)) }

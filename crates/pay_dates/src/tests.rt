@@ -1,4 +1,9 @@
-use crate::{Day, day_number_orders, day_text_reads_back, read_day, write_day};
+//! One test of the calls on days.
+
+use crate::{
+    Day, day_number_orders, day_text_reads_back, days_compare_by_number, read_day, write_day,
+};
+use std::cmp::Ordering;
 use std::test::Fail;
 
 #[test]
@@ -38,6 +43,8 @@ fn days(rt: HostRuntime) -> Result<(), Fail> {
     let mut bytes = Vec::new(rt.alloc());
     write_day(day, &mut bytes)?;
     assert_eq!(rt; bytes.as_slice(), b"2024-06-28".as_slice());
+    let eve = Day::new(2023, 12, 31).ok_or("no such day")?;
+    assert_eq!(rt; days_compare_by_number(eve, day), Ordering::Less);
     day_text_reads_back();
     day_number_orders();
     Ok(())

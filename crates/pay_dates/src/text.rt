@@ -1,10 +1,12 @@
+//! The text of a day, `YYYY-MM-DD`: read and written.
+
 ghost use Rattle.std.specs.Prelude.{◌≡◌, ◌++◌, ◌+◌, ◌*◌, ◌-◌, ◌/◌, ◌%◌, ◌<◌, ◌≤◌, OnOk, OnErr, IsTrue, length, slice_index, vec_len, vec_capacity};
 ghost use Rattle.pay_dates.specs.Days.{IsDay, day_in, day_text, has_form, two_at, year_at};
 ghost use Rattle.pay_dates.specs.Parts.{is_digit, has_two_digits};
 
 use crate::Day;
 
-/// Memory ran out.
+/// There was no memory left; nothing was changed.
 #[derive(Clone, Copy, PartialEq, Eq, Debug)]
 pub struct NoMemory;
 
@@ -47,7 +49,7 @@ fn two_at(bytes: &[u8; 10], at: usize) -> u8
 
 /// The day that the bytes write as `YYYY-MM-DD`.
 ///
-/// `None` where the bytes have another form, or write no day from 1900-01-01 to 2199-12-31.
+/// `None` exactly where the bytes have another form, or write no day from 1900-01-01 to 2199-12-31.
 pub fn read_day(bytes: &[u8; 10]) -> Option<Day>
     ensures { result ≡ day_in bytes.now }
 {
@@ -68,7 +70,7 @@ fn digit(n: u8) -> u8
 
 /// Appends the day's text `YYYY-MM-DD`, ten bytes.
 ///
-/// `NoMemory` where they find no room; then `into` is as it was.
+/// [`NoMemory`] where `into` has no room for the ten bytes and gets none; then `into` is unchanged.
 pub fn write_day(day: Day, into: &mut Vec<u8>) -> Result<(), NoMemory>
     ensures ok { OnOk result (into.new.items ≡ into.old.items ++ day_text day) }
     ensures err { OnErr result (into.new.items ≡ into.old.items) }

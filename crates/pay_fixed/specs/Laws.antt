@@ -29,5 +29,6 @@ pub record IsShortest (z : ℤ) : Type 0 where
   pub exact : IsExactly (decimal_of z) z
   pub fewest : (d : Decimal) → d.exponent ≡ pos 0 → IsExactly d z → length (decimal_of z).fraction ≤ length d.fraction
 
+-- every number is written with the fewest digits after the point
 abbrev pub DecimalIsShortest : Type 0
 DecimalIsShortest = (z : ℤ) → IsRaw z → IsShortest z

@@ -54,12 +54,15 @@ after_sign (c ∷ cs) = if (c == 43) || (c == 45) then cs else c ∷ cs
 abbrev pub only_power : ℤ → List ℕ → Reading
 only_power z rest = record { decimal = record { negative = false; whole = []; fraction = []; exponent = z }; rest = rest }
 
+-- what was read, with these digits after the point
 abbrev pub with_fraction : List ℕ → Reading → Reading
 with_fraction digits r = record r { decimal = record r.decimal { fraction = digits } }
 
+-- what was read, with these digits before the point
 abbrev pub with_whole : List ℕ → Reading → Reading
 with_whole digits r = record r { decimal = record r.decimal { whole = digits } }
 
+-- what was read, with this sign
 abbrev pub with_sign : Bool → Reading → Reading
 with_sign negative r = record r { decimal = record r.decimal { negative = negative } }
 

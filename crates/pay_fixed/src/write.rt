@@ -1,6 +1,6 @@
 //! Writing a number with the fewest decimals.
 
-ghost use Rattle.std.specs.Prelude.{◌≡◌, ℕ, List, ◌++◌, ◌<◌, OnOk, OnErr, int_lt, pos};
+ghost use Rattle.std.specs.Prelude.{◌≡◌, ℕ, List, ◌++◌, ◌+◌, ◌<◌, ◌≤◌, OnOk, OnErr, length, vec_len, vec_capacity, int_lt, pos};
 ghost use Rattle.std.specs.Fmt.{decimal};
 ghost use Rattle.pay_fixed.specs.Decimal.{decimal_text, sign_text, point_text, without_zeros, four_digits};
 
@@ -10,10 +10,11 @@ use std::alloc::AllocError;
 impl Fixed {
     /// Appends the number in decimal, with as few digits after the point as give its value: `12.5`, `0`, `-0.0001`.
     ///
-    /// [`NoMemory`] where there is no room; then `into` is unchanged.
+    /// [`NoMemory`] where `into` has no room for all of it and gets none; then `into` is unchanged.
     pub fn write_decimal(self, into: &mut Vec<u8>) -> Result<(), NoMemory>
         ensures ok { OnOk result (into.new.items ≡ into.old.items ++ decimal_text self) }
         ensures err { OnErr result (into.new.items ≡ into.old.items) }
+        ensures full { OnErr result (vec_capacity into.old < vec_len into.old + length (decimal_text self)) }
     {
         let before = into.len();
         if put_decimal(self.raw(), into).is_err() {
@@ -29,6 +30,7 @@ impl Fixed {
 fn put_decimal(raw: i64, into: &mut Vec<u8>) -> Result<(), AllocError>
     ensures ok { OnOk result (into.new.items ≡ into.old.items ++ decimal_text raw) }
     ensures err { OnErr result ((more : List ℕ) × (into.new.items ≡ into.old.items ++ more)) }
+    ensures full { OnErr result (vec_capacity into.old < vec_len into.old + length (decimal_text raw)) }
 {
     put_sign(raw, into)?;
     let magnitude = raw.unsigned_abs();
@@ -40,6 +42,8 @@ fn put_decimal(raw: i64, into: &mut Vec<u8>) -> Result<(), AllocError>
 fn put_sign(raw: i64, into: &mut Vec<u8>) -> Result<(), AllocError>
     ensures ok { OnOk result (into.new.items ≡ into.old.items ++ sign_text (int_lt raw (pos 0))) }
     ensures err { OnErr result ((more : List ℕ) × (into.new.items ≡ into.old.items ++ more)) }
+    ensures full { OnErr result (vec_capacity into.old < vec_len into.old + length (sign_text (int_lt raw (pos 0)))) }
+    ensures capacity { vec_capacity into.old ≤ vec_capacity into.new }
 {
     if raw < 0 {
         into.push(b'-')?;
@@ -51,6 +55,8 @@ fn put_sign(raw: i64, into: &mut Vec<u8>) -> Result<(), AllocError>
 fn put_whole(number: u64, into: &mut Vec<u8>) -> Result<(), AllocError>
     ensures ok { OnOk result (into.new.items ≡ into.old.items ++ decimal number) }
     ensures err { OnErr result ((more : List ℕ) × (into.new.items ≡ into.old.items ++ more)) }
+    ensures full { OnErr result (vec_capacity into.old < vec_len into.old + length (decimal number)) }
+    ensures capacity { vec_capacity into.old ≤ vec_capacity into.new }
 {
     if number >= 10 {
         put_whole(number / 10, into)?;
@@ -64,6 +70,8 @@ fn put_fraction(number: u64, into: &mut Vec<u8>) -> Result<(), AllocError>
     requires { number < 10_000 }
     ensures ok { OnOk result (into.new.items ≡ into.old.items ++ point_text (without_zeros (four_digits number))) }
     ensures err { OnErr result ((more : List ℕ) × (into.new.items ≡ into.old.items ++ more)) }
+    ensures full { OnErr result (vec_capacity into.old < vec_len into.old + length (point_text (without_zeros (four_digits number)))) }
+    ensures capacity { vec_capacity into.old ≤ vec_capacity into.new }
 {
     let a = b'0' + (number / 1000) as u8;
     let b = b'0' + (number / 100 % 10) as u8;

@@ -1,2 +1,3 @@
+-- What the contracts of `pay_tree` cite.
 pub mod Names
 pub mod Views

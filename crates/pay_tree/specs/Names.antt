@@ -23,6 +23,7 @@ keywords =
     ∷ codes "if" ∷ codes "then" ∷ codes "else" ∷ codes "endif" ∷ codes "pays" ∷ codes "min" ∷ codes "max" ∷ codes "abs" ∷ codes "spot" ∷ codes "period"
     ∷ codes "days" ∷ codes "not" ∷ codes "and" ∷ codes "or" ∷ []
 
+-- the language keeps the word for itself
 unfoldable pub is_keyword : List ℕ → Bool
 is_keyword word = list_any (bytes_eq word) keywords
 
@@ -30,5 +31,6 @@ is_keyword word = list_any (bytes_eq word) keywords
 unfoldable pub is_name : List ℕ → Bool
 is_name bytes = nat_le (length bytes) 64 && is_lower_word bytes && not (is_keyword bytes)
 
+-- the bytes are a name
 abbrev pub IsName : List ℕ → Type 0
 IsName bytes = IsTrue (is_name bytes)

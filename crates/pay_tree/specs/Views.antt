@@ -13,10 +13,12 @@ use Rattle.pay_tree.specs.declared.tree.Item.TheVariants as item_tree
 use Rattle.pay_tree.specs.declared.tree.Script.{Script as ScriptTree}
 use Rattle.pay_tree.specs.declared.tree.NamedEvent.{NamedEvent}
 
+-- the operator that an operator of a tree is
 abbrev pub operator : Binary → Operator
 operator Add = add
 operator Sub = subtract
 
+-- the number that an expression is, given those of its sides
 abbrev pub number_part : Expr-F Number → Number
 number_part (Expr-F.Number raw) = literal raw
 number_part (Expr-F.Name name) = variable name
@@ -27,17 +29,21 @@ number_part (Expr-F.Binary op left right) = binary (operator op) left.value righ
 abbrev pub number : Expr → Number
 number = fold-Expr Number number_part
 
+-- the statement that a statement of a tree is
 abbrev pub statement : Stmt → Statement
 statement (stmt.Assign name value) = assign name (number value)
 statement (stmt.Pay leg amount) = pay leg (number amount)
 
+-- the body of statements in their order
 abbrev pub body_of : List Statement → Body
 body_of [] = done
 body_of (first ∷ rest) = next first (body_of rest)
 
+-- the body that statements of a tree are
 abbrev pub body : List Stmt → Body
 body statements = body_of (map statement statements)
 
+-- the item that an item of a tree is
 abbrev pub item : ItemTree → Item
 item (item_tree.Plain date statements) = plain date (body statements.items)
 
@@ -45,5 +51,6 @@ item (item_tree.Plain date statements) = plain date (body statements.items)
 abbrev pub script : ScriptTree → Script
 script tree = map item tree.items.items
 
+-- the event that an event with names is
 abbrev pub event : NamedEvent → Event
 event e = record { date = e.date; period = e.period; days = e.days; body = body e.body.items }

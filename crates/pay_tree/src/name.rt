@@ -1,3 +1,5 @@
+//! Names of variables and of legs: which bytes are one, and their order.
+
 ghost use Rattle.std.specs.Prelude.{◌≡◌, ◌≤◌, ◌||◌, IfOk, OnOk, IsErrOf, length, drop, List, ℕ};
 ghost use Rattle.std.specs.List.{list_all, list_any};
 ghost use Rattle.std.specs.Str.{bytes_eq};
@@ -145,12 +147,13 @@ impl Name {
     ///
     /// # Errors
     ///
-    /// `NotName` where the bytes are no name: there are none or more than 64, some byte may not stand in a name, or they are a keyword.
-    /// `NoMemory` where there was no memory for the copy.
+    /// `NotName` exactly where the bytes are no name: there are none or more than 64, some byte may not stand where it does, or they are a keyword.
+    /// `NoMemory` where they are a name and there was no memory for the copy.
     pub fn read(alloc: Global, bytes: &[u8]) -> Result<Name, NameFault>
         ensures read { IfOk result (λ name. name ≡ bytes.now) }
         ensures name { OnOk result (IsName bytes.now) }
         ensures not_name { IsErrOf result NameFault.NotName → ¬ IsName bytes.now }
+        ensures no_memory { IsErrOf result NameFault.NoMemory → IsName bytes.now }
     {
         if !is_name(bytes) {
             return Err(NameFault::NotName);

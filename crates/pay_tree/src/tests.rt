@@ -1,3 +1,5 @@
+//! One test of the calls on names.
+
 use crate::{Name, NameFault};
 use std::cmp::Ordering;
 use std::test::Fail;

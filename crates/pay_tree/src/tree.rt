@@ -1,3 +1,5 @@
+//! The trees: operators, numbers, statements, items, scripts, and events with their names.
+
 use crate::name::Name;
 use pay_dates::Day;
 use pay_fixed::Fixed;
