@@ -9,7 +9,8 @@ use crate::sink::{Failed, Sink};
 use std::io::Write;
 
 /// A sink over a stream, as standard output. It doesn't tell its text. A put is written and flushed at once, so that a
-/// device that is full is seen. Its faults are the puts that failed, up to 2^64 - 1.
+/// device that is full is seen. Its faults are the puts that failed, up to 2^64 - 1. Where the stream itself tells what
+/// it holds, a put has appended all bytes, and a put that failed some first of them.
 #[derive(Drop)]
 pub struct StreamSink<W: Write> {
     stream: W,
@@ -17,9 +18,10 @@ pub struct StreamSink<W: Write> {
 }
 
 impl<W: Write> StreamSink<W> {
-    /// A sink over `stream` that counts no faults.
+    /// A sink over `stream`, to which nothing is written yet, that counts no faults.
     pub fn new(stream: W) -> StreamSink<W>
-        ensures { stream_faults result ≡ 0 }
+        ensures faults { stream_faults result ≡ 0 }
+        ensures stream { held W.contents result ≡ W.contents stream }
     {
         StreamSink { stream, faults: 0 }
     }
