@@ -1,4 +1,5 @@
 pub mod Entries
 pub mod Pieces
+pub mod Streams
 pub mod Told
 pub mod Wholes

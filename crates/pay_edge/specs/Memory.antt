@@ -29,24 +29,27 @@ memory_read_faults depot = count_of depot.failed.items
 abbrev pub memory_write_faults : MemoryDepot → ℕ
 memory_write_faults depot = depot.write_faults
 
--- how many fetches and replaces there were
+-- how many fetches there were
 abbrev pub memory_fetches : MemoryDepot → ℕ
 memory_fetches depot = depot.fetches
 
+-- how many replaces there were
 abbrev pub memory_replaces : MemoryDepot → ℕ
 memory_replaces depot = depot.replaces
 
--- the numbers of the fetches and replaces that are to fail
+-- the numbers of the fetches that are to fail
 abbrev pub planned_fetches : MemoryDepot → List ℕ
 planned_fetches depot = depot.fetches_to_fail.items
 
+-- the numbers of the replaces that are to fail
 abbrev pub planned_replaces : MemoryDepot → List ℕ
 planned_replaces depot = depot.replaces_to_fail.items
 
--- the next fetch, or replace, is to fail
+-- the next fetch is to fail
 abbrev pub fails_fetch : MemoryDepot → Bool
 fails_fetch depot = is_planned (planned_fetches depot) (memory_fetches depot)
 
+-- the next replace is to fail
 abbrev pub fails_replace : MemoryDepot → Bool
 fails_replace depot = is_planned (planned_replaces depot) (memory_replaces depot)
 
@@ -57,8 +60,8 @@ pub record IsNewDepot (depot : MemoryDepot) : Type 0 where
   pub write_faults : memory_write_faults depot ≡ 0
   pub fetches : memory_fetches depot ≡ 0
   pub replaces : memory_replaces depot ≡ 0
-  pub planned_f : planned_fetches depot ≡ []
-  pub planned_r : planned_replaces depot ≡ []
+  pub fetches_to_fail : planned_fetches depot ≡ []
+  pub replaces_to_fail : planned_replaces depot ≡ []
 
 -- No count of faults and no number of calls has changed.
 pub record SameCounts (old new : MemoryDepot) : Type 0 where

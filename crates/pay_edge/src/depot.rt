@@ -1,4 +1,5 @@
-// A place of files by name.
+//! A place of files by name.
+
 ghost use Rattle.std.specs.Prelude.{◌≡◌, ℕ, ◌<◌, ◌≤◌, List, length, IfOk, OnOk, IsErr, IsErrOf, IfSome, IsSomeAnd};
 ghost use Rattle.std.specs.declared.option.Option.{Option};
 ghost use Rattle.std.specs.FinMap as map;

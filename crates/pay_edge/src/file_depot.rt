@@ -1,7 +1,9 @@
-// A depot over the files of the system.
-ghost use Rattle.std.specs.Prelude.{◌≡◌, ◌≤◌, [], length, IfOk};
-ghost use Rattle.std.specs.declared.option.Option.TheVariants.{None};
-ghost use Rattle.pay_edge.specs.Kept.{count_of};
+//! A depot over the files of the system.
+
+ghost use Rattle.std.specs.Prelude.{◌≡◌, ℕ, ◌+◌, ◌<◌, ◌≤◌, List, length, take, IfOk, OnOk, IsErrOf};
+ghost use Rattle.std.specs.Io.KnownBytes.{Consumes, IsAtEnd};
+ghost use Rattle.pay_edge.specs.Edge.{Rose, one_more, OnlyRead, SameBut};
+ghost use Rattle.pay_edge.specs.Outside.{no_files, file_read_faults, file_write_faults, file_fetches};
 
 use crate::depot::{Depot, FetchFault, NoMemory, ReplaceFault};
 use crate::kept::put_first;
@@ -27,9 +29,9 @@ pub struct FileDepot<R: Files> {
 impl<R: Files> FileDepot<R> {
     /// A depot over the files that `runtime` reaches, whose counts are 0.
     pub fn new(alloc: Global, runtime: R) -> FileDepot<R>
-        ensures read_faults { result.failed.items ≡ [] }
-        ensures fetches { result.fetches ≡ 0 }
-        ensures write_faults { result.write_faults ≡ 0 }
+        ensures read_faults { (name : List ℕ) → file_read_faults result name ≡ 0 }
+        ensures fetches { file_fetches result ≡ 0 }
+        ensures write_faults { file_write_faults result ≡ 0 }
     {
         FileDepot {
             alloc,
@@ -42,15 +44,30 @@ impl<R: Files> FileDepot<R> {
 }
 
 impl<R: Files> Depot for FileDepot<R> {
-    ghost files = { λ _. None };
+    ghost files = { no_files };
 
-    ghost read_faults = { λ depot. count_of depot.failed.items };
+    ghost read_faults = { file_read_faults };
 
-    ghost write_faults = { λ depot. depot.write_faults };
+    ghost write_faults = { file_write_faults };
 
-    ghost fetches = { λ depot. depot.fetches };
+    ghost fetches = { file_fetches };
 
-    fn fetch(&mut self, name: &str, at: u64, into: &mut [u8]) -> Result<usize, FetchFault> {
+    fn fetch(&mut self, name: &str, at: u64, into: &mut [u8]) -> Result<usize, FetchFault>
+        requires { 0 < length into.old }
+
+        // As any depot that doesn't tell its files.
+        ensures reads { OnlyRead no_files file_read_faults file_write_faults self.old self.new }
+        ensures other_names { SameBut name.now (file_read_faults self.old) (file_read_faults self.new) }
+        ensures counted { file_fetches self.new ≡ one_more (file_fetches self.old) }
+        ensures bound { IfOk result (λ n. n ≤ length into.old) }
+        ensures failed { IsErrOf result FetchFault.Failed → Rose (file_read_faults self.old name.now) (file_read_faults self.new name.now) }
+        ensures absent { IsErrOf result FetchFault.Absent → ⊥ }
+        ensures memory_counts { IsErrOf result FetchFault.NoMemory → file_read_faults self.new name.now ≡ file_read_faults self.old name.now }
+
+        // Each failure counts once, for this name, and nothing else does.
+        ensures failed_count { IsErrOf result FetchFault.Failed → file_read_faults self.new name.now ≡ file_read_faults self.old name.now + 1 }
+        ensures ok_counts { OnOk result (file_read_faults self.new ≡ file_read_faults self.old) }
+    {
         self.fetches = self.fetches.saturating_add(1);
         // Room for a note of a failure is taken before the read.
         let Ok(noted) = String::from_str(self.alloc, name) else {
@@ -68,7 +85,18 @@ impl<R: Files> Depot for FileDepot<R> {
         }
     }
 
-    fn replace(&mut self, name: &str, bytes: &[u8]) -> Result<(), ReplaceFault> {
+    fn replace(&mut self, name: &str, bytes: &[u8]) -> Result<(), ReplaceFault>
+        // As any depot that doesn't tell its files.
+        ensures read_faults { file_read_faults self.new ≡ file_read_faults self.old }
+        ensures fetches { file_fetches self.new ≡ file_fetches self.old }
+        ensures never_falls { file_write_faults self.old ≤ file_write_faults self.new }
+        ensures failed { IsErrOf result ReplaceFault.Failed → Rose (file_write_faults self.old) (file_write_faults self.new) }
+
+        // Each failure counts once, and nothing else does. It takes no memory.
+        ensures failed_count { IsErrOf result ReplaceFault.Failed → file_write_faults self.new ≡ one_more (file_write_faults self.old) }
+        ensures ok_count { OnOk result (file_write_faults self.new ≡ file_write_faults self.old) }
+        ensures memory { IsErrOf result ReplaceFault.NoMemory → ⊥ }
+    {
         if write_file(&self.runtime, name, bytes).is_err() {
             self.write_faults = self.write_faults.saturating_add(1);
             return Err(ReplaceFault::Failed);
@@ -90,9 +118,11 @@ fn read_at<R: Files>(runtime: &R, name: &str, at: u64, into: &mut [u8]) -> Resul
     read_full(&mut file, into)
 }
 
-// Reads until the buffer is full or the stream ends.
+// Reads until the buffer is full or the stream ends. Of a stream that tells what it has left, the bytes are the next.
 fn read_full<F: Read>(stream: &mut F, into: &mut [u8]) -> Result<usize, Failed>
-    ensures { IfOk result (λ count. count ≤ length into.old) }
+    ensures bound { IfOk result (λ count. count ≤ length into.old) }
+    ensures bytes { IfOk result (λ count. Consumes (F.remaining stream.old) (F.remaining stream.new) (take count into.new)) }
+    ensures end { IfOk result (λ count. count < length into.old → IsAtEnd (F.remaining stream.new)) }
 {
     let mut count = 0;
     while count < into.len() {

@@ -1,4 +1,5 @@
-// Names whose reads failed, and numbers of calls that are to fail.
+//! Names whose reads failed, and numbers of calls that are to fail.
+
 ghost use Rattle.std.specs.Prelude.{◌≡◌, ◌∷◌, OnOk, OnErr};
 ghost use Rattle.pay_edge.specs.Kept.{IsNoted, is_planned};
 

@@ -1,5 +1,6 @@
-// A depot in memory, which fails where it is asked to.
-ghost use Rattle.std.specs.Prelude.{◌≡◌, ◌⊎◌, ◌<◌, ◌≤◌, ◌∷◌, ℕ, ◌+◌, length, IfOk, OnOk, OnErr, IsErr, IsErrOf, IfSome, IsSomeAnd, IsTrue, IsFalse};
+//! A depot in memory, which fails where it is asked to.
+
+ghost use Rattle.std.specs.Prelude.{◌≡◌, ◌⊎◌, ◌<◌, ◌≤◌, ◌∷◌, ℕ, ◌+◌, ◌-◌, min, length, drop, IfOk, OnOk, OnErr, IsErr, IsErrOf, IfSome, IsSomeAnd, IsTrue, IsFalse};
 ghost use Rattle.std.specs.Option.{option_map};
 ghost use Rattle.std.specs.FinMap as map;
 ghost use Rattle.pay_edge.specs.Edge.{Rose, one_more, OnlyRead, SameBut, Fetches, IsAbsent, SameOthers, replaced};
@@ -9,7 +10,8 @@ use crate::depot::{Depot, FetchFault, NoMemory, ReplaceFault};
 use crate::kept::{next_is_planned, note_failure};
 use std::alloc::Global;
 
-/// A depot in memory. It tells its files. Its calls fail where that was asked for, and else only for want of memory.
+/// A depot in memory. It tells its files. Its calls fail where that was asked for, and else only for want of memory. A
+/// fetch gives as many bytes as there are and fit, and leaves the rest of the buffer.
 #[derive(Drop)]
 pub struct MemoryDepot {
     alloc: Global,
@@ -140,6 +142,8 @@ fn copy_from(file: &[u8], at: u64, into: &mut [u8]) -> usize
     requires { 0 < length into.old }
     ensures bound { result ≤ length into.old }
     ensures bytes { Fetches file.now at result into.new }
+    ensures most { result ≡ min (length into.old) (length file.now - at) }
+    ensures rest { drop result into.new ≡ drop result into.old }
 {
     if at >= file.len() as u64 {
         return 0;
@@ -193,6 +197,11 @@ impl Depot for MemoryDepot {
         ensures ok_counts { OnOk result (memory_read_faults self.new ≡ memory_read_faults self.old) }
         ensures replaces { memory_replaces self.new ≡ memory_replaces self.old }
         ensures plans { SamePlans self.old self.new }
+
+        // As many bytes come as there are and fit. The rest of the buffer stands, and all of it where no bytes come.
+        ensures most { IfOk result (λ n. IsSomeAnd (map.get (memory_files self.old) name.now) (λ file. n ≡ min (length into.old) (length file - at))) }
+        ensures rest { IfOk result (λ n. drop n into.new ≡ drop n into.old) }
+        ensures buffer { OnErr result (into.new ≡ into.old) }
     {
         let fails = self.next_fetch_fails();
         self.fetches = self.fetches.saturating_add(1);

@@ -1,4 +1,5 @@
-// A sink in memory, which fails where it is asked to.
+//! A sink in memory, which fails where it is asked to.
+
 ghost use Rattle.std.specs.Prelude.{◌≡◌, ◌≤◌, ◌∷◌, [], is_some, length, vec_len, IfOk, OnOk, OnErr, IsOk, IsErr, IsTrue, IsFalse};
 ghost use Rattle.std.specs.Vec.{vec_capacity};
 ghost use Rattle.pay_edge.specs.Edge.{Rose, one_more, appended, AppendsFront};

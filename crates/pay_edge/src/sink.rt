@@ -1,4 +1,5 @@
-// A place that takes bytes in order.
+//! A place that takes bytes in order.
+
 ghost use Rattle.std.specs.Prelude.{◌≡◌, ℕ, ◌≤◌, List, [], is_some, OnOk, OnErr};
 ghost use Rattle.std.specs.declared.option.Option.{Option};
 ghost use Rattle.pay_edge.specs.Edge.{Rose, appended, AppendsFront};

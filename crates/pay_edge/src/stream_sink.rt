@@ -1,12 +1,16 @@
-// A sink over a stream.
-ghost use Rattle.std.specs.Prelude.{◌≡◌};
-ghost use Rattle.std.specs.declared.option.Option.TheVariants.{None};
+//! A sink over a stream.
+
+ghost use Rattle.std.specs.Prelude.{◌≡◌, ℕ, ◌≤◌, take, OnOk, OnErr};
+ghost use Rattle.std.specs.Io.KnownBytes.{Appends};
+ghost use Rattle.pay_edge.specs.Edge.{Rose, one_more};
+ghost use Rattle.pay_edge.specs.Outside.{no_text, stream_faults, held};
 
 use crate::sink::{Failed, Sink};
 use std::io::Write;
 
 /// A sink over a stream, as standard output. It doesn't tell its text. A put is written and flushed at once, so that a
-/// device that is full is seen. Its faults are the puts that failed, up to 2^64 - 1.
+/// device that is full is seen. Its faults are the puts that failed, up to 2^64 - 1. Where the stream itself tells what
+/// it holds, a put has appended all bytes, and a put that failed some first of them.
 #[derive(Drop)]
 pub struct StreamSink<W: Write> {
     stream: W,
@@ -14,20 +18,33 @@ pub struct StreamSink<W: Write> {
 }
 
 impl<W: Write> StreamSink<W> {
-    /// A sink over `stream` that counts no faults.
+    /// A sink over `stream`, to which nothing is written yet, that counts no faults.
     pub fn new(stream: W) -> StreamSink<W>
-        ensures { result.faults ≡ 0 }
+        ensures faults { stream_faults result ≡ 0 }
+        ensures stream { held W.contents result ≡ W.contents stream }
     {
         StreamSink { stream, faults: 0 }
     }
 }
 
 impl<W: Write> Sink for StreamSink<W> {
-    ghost text = { λ _. None };
+    ghost text = { no_text };
 
-    ghost faults = { λ sink. sink.faults };
+    ghost faults = { stream_faults };
 
-    fn put(&mut self, bytes: &[u8]) -> Result<(), Failed> {
+    fn put(&mut self, bytes: &[u8]) -> Result<(), Failed>
+        // As any sink that doesn't tell its text.
+        ensures never_falls { stream_faults self.old ≤ stream_faults self.new }
+        ensures failed { OnErr result (Rose (stream_faults self.old) (stream_faults self.new)) }
+
+        // Each fault counts once, and nothing else does.
+        ensures ok_count { OnOk result (stream_faults self.new ≡ stream_faults self.old) }
+        ensures failed_count { OnErr result (stream_faults self.new ≡ one_more (stream_faults self.old)) }
+
+        // A stream that tells what it holds has got all bytes, or some first of them.
+        ensures written { OnOk result (Appends (held W.contents self.old) (held W.contents self.new) bytes.now) }
+        ensures begun { (n : ℕ) × Appends (held W.contents self.old) (held W.contents self.new) (take n bytes.now) }
+    {
         if write_out(&mut self.stream, bytes).is_err() {
             self.faults = self.faults.saturating_add(1);
             return Err(Failed);
@@ -36,19 +53,31 @@ impl<W: Write> Sink for StreamSink<W> {
     }
 }
 
-// Writes all bytes and flushes. A write that takes none of some bytes is a fault.
-pub(crate) fn write_out<W: Write>(stream: &mut W, bytes: &[u8]) -> Result<(), Failed> {
-    let mut rest = bytes;
-    while !rest.is_empty() {
-        match stream.write(rest) {
-            Ok(0) | Err(_) => return Err(Failed),
-            Ok(count) => rest = &rest[count..],
-        }
-    }
+// Writes all bytes and flushes. A stream that tells what it holds has got them all, or some first of them.
+pub(crate) fn write_out<W: Write>(stream: &mut W, bytes: &[u8]) -> Result<(), Failed>
+    ensures ok { OnOk result (Appends (W.contents stream.old) (W.contents stream.new) bytes.now) }
+    ensures begun { (n : ℕ) × Appends (W.contents stream.old) (W.contents stream.new) (take n bytes.now) }
+{
+    write_each(stream, bytes)?;
     match stream.flush() {
         Ok(()) => Ok(()),
         Err(_) => Err(Failed),
     }
+}
+
+// Writes all bytes. A write that takes none of some bytes is a fault.
+fn write_each<W: Write>(stream: &mut W, bytes: &[u8]) -> Result<(), Failed>
+    ensures ok { OnOk result (Appends (W.contents stream.old) (W.contents stream.new) bytes.now) }
+    ensures begun { (n : ℕ) × Appends (W.contents stream.old) (W.contents stream.new) (take n bytes.now) }
+{
+    let mut written = 0;
+    while written < bytes.len() {
+        match stream.write(&bytes[written..]) {
+            Ok(0) | Err(_) => return Err(Failed),
+            Ok(count) => written += count,
+        }
+    }
+    Ok(())
 }
 
 #[cfg(test)]
@@ -57,11 +86,12 @@ mod tests {
     use std::io;
     use std::test::Fail;
 
-    // A stream that takes one byte at once, and eight in all.
+    // A stream that takes one byte at once, and eight in all, and notes how many there were at the last flush.
     #[derive(Drop)]
     struct Narrow {
         text: [u8; 8],
         length: usize,
+        flushed: usize,
     }
 
     impl Write for Narrow {
@@ -78,6 +108,7 @@ mod tests {
         }
 
         fn flush(&mut self) -> io::Result<()> {
+            self.flushed = self.length;
             Ok(())
         }
     }
@@ -87,8 +118,10 @@ mod tests {
         let mut sink = StreamSink::new(Narrow {
             text: [0; 8],
             length: 0,
+            flushed: 0,
         });
         assert!(rt; sink.put(b"hello") == Ok(()));
+        assert!(rt; sink.stream.flushed == 5);
         assert!(rt; sink.put(b"") == Ok(()));
         assert!(rt; sink.faults == 0);
         assert!(rt; sink.put(b"world") == Err(Failed));

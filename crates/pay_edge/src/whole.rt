@@ -1,4 +1,5 @@
-// A file of any depot, read as a whole.
+//! A file of any depot, read as a whole.
+
 ghost use Rattle.std.specs.Prelude.{◌≡◌, ◌+◌, ◌^◌, ◌<◌, ◌≤◌, length, vec_len, IfOk, IfSome, IsErrOf, IsSomeAnd, IsTrue, IsFalse};
 ghost use Rattle.pay_edge.specs.Edge.{Rose, OnlyRead, SameBut, whole_of, IsBegun};
 ghost use Rattle.pay_edge.specs.Edge.Whole.{Missing, Long, Bytes};
@@ -22,7 +23,7 @@ pub enum WholeFault {
     NoMemory,
 }
 
-/// The bytes of the file `name`, of which at most `limit` are taken.
+/// The bytes of the file `name`, of which at most `limit` are taken. The limit is at most 2^26.
 ///
 /// It fetches from the front with a buffer of 65,536 bytes, until no bytes come or they are more than the limit. So
 /// it fetches at most `limit + 1` times.
@@ -30,7 +31,8 @@ pub enum WholeFault {
 /// # Errors
 ///
 /// `Absent` where the depot tells its files and this one is not there, `Failed` where a fetch failed, `TooLong` where
-/// the file has more than `limit` bytes, `NoMemory` where there was no memory for the bytes.
+/// the file has more than `limit` bytes, `NoMemory` where there was no memory for the bytes. No file has changed, whatever
+/// it answers.
 pub fn read_whole<D: Depot>(
     alloc: Global,
     depot: &mut D,

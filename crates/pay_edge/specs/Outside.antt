@@ -1,0 +1,39 @@
+-- What is seen of the system's files and streams: counts, and of a stream what it tells itself.
+use Rattle.std.specs.Prelude.{ℕ, List}
+use Rattle.std.specs.declared.option.Option.{Option}
+use Rattle.std.specs.declared.option.Option.TheVariants.{None}
+use Rattle.pay_edge.specs.Edge.{Files}
+use Rattle.pay_edge.specs.Kept.{count_of}
+use Rattle.pay_edge.specs.declared.stream_sink.StreamSink.{StreamSink}
+use Rattle.pay_edge.specs.declared.file_depot.FileDepot.{FileDepot}
+
+module _ {W : Type 0} where
+  -- a sink over a stream tells no text
+  abbrev pub no_text : StreamSink W → Option (List ℕ)
+  no_text sink = None
+
+  -- how often a put failed
+  abbrev pub stream_faults : StreamSink W → ℕ
+  stream_faults sink = sink.faults
+
+  -- what a sink's stream holds, by what such streams tell
+  abbrev pub held : (W → Option (List ℕ)) → StreamSink W → Option (List ℕ)
+  held contents sink = contents sink.stream
+
+-- of a runtime, with its types of files
+module _ {R A B : Type 0} where
+  -- a depot over the files of the system tells no file
+  abbrev pub no_files : FileDepot R A B → Option Files
+  no_files depot = None
+
+  -- how often a fetch of each name failed
+  abbrev pub file_read_faults : FileDepot R A B → List ℕ → ℕ
+  file_read_faults depot = count_of depot.failed.items
+
+  -- how often a replace failed
+  abbrev pub file_write_faults : FileDepot R A B → ℕ
+  file_write_faults depot = depot.write_faults
+
+  -- how many fetches there were
+  abbrev pub file_fetches : FileDepot R A B → ℕ
+  file_fetches depot = depot.fetches
