@@ -144,5 +144,6 @@ Caused asked ends Unwritten =
     × IsTextBegun (answer_of asked files) ends.text ends.text'
     × IsLeft (answer_of asked files) ends.files ends.files' ends.writes ends.writes')
 Caused asked ends NoMemory =
-    IfSome ends.files (λ files. IsTextBegun (answer_of asked files) ends.text ends.text'
+    IsSome asked
+    × IfSome ends.files (λ files. IsTextBegun (answer_of asked files) ends.text ends.text'
     × IsLeft (answer_of asked files) ends.files ends.files' ends.writes ends.writes')

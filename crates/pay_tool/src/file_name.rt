@@ -33,7 +33,8 @@ impl FileName {
     ///
     /// # Errors
     ///
-    /// `NotRequest` where `word` is empty or begins with `--`, `NoMemory` where there was no memory for the name.
+    /// `NotRequest` where `word` is empty or begins with `--`, `NoMemory` where it is a name and there was
+    /// no memory for it.
     pub fn read(alloc: Global, word: &str) -> Result<FileName, WordsFault>
         ensures read { IfOk result (λ name. name ≡ word.now) }
         ensures name { OnOk result (is_file_name word.now ≡ true) }
@@ -57,8 +58,8 @@ impl FileName {
     }
 }
 
-// Whether the word isn't empty and doesn't begin with `--`.
-fn is_name(word: &[u8]) -> bool
+/// Whether the word isn't empty and doesn't begin with `--`.
+pub fn is_name(word: &[u8]) -> bool
     ensures { result ≡ is_file_name word.now }
 {
     match word {

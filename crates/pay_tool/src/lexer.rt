@@ -1,4 +1,4 @@
-ghost use Rattle.std.specs.Prelude.{◌≡◌, ◌≤◌, ◌||◌, ◌∷◌, List, Option, Some, None, IfOk, IfSome, IsErrOf, length, map, take};
+ghost use Rattle.std.specs.Prelude.{◌≡◌, ◌≤◌, ◌||◌, ◌∷◌, List, Option, Some, None, IfOk, IfSome, IsErrOf, IsSome, length, map, take};
 ghost use Rattle.std.specs.Option.{option_map};
 ghost use Rattle.pay_tree.specs.Names.{is_digit};
 ghost use Rattle.pay_tool.specs.Tokens.{is_blank, lower, sign_of, word_token};
@@ -244,6 +244,7 @@ fn token_at(alloc: Global, first: u8, rest: &[u8]) -> Result<Lexeme, LexFault>
     ensures found { IfOk result (λ lexeme. token_at first rest.now ≡ Some (front lexeme)) }
     ensures within { IfOk result (λ lexeme. lexeme.more ≤ length rest.now) }
     ensures none { IsErrOf result LexFault.NoToken → token_at first rest.now ≡ None }
+    ensures memory { IsErrOf result LexFault.NoMemory → IsSome (token_at first rest.now) }
 {
     if is_digit(first) {
         return Ok(number_lexeme(alloc, first, rest)?);
@@ -267,6 +268,7 @@ fn take_token<'a>(
     ensures taken { IfOk result (λ left. with_taken tokens.old.items (token_then (token_at first rest.now) (λ n. tokens_after n rest.now)) ≡ with_taken tokens.new.items (tokens_after 0 left.now)) }
     ensures shorter { IfOk result (λ left. length left.now ≤ length rest.now) }
     ensures none { IsErrOf result LexFault.NoToken → token_at first rest.now ≡ None }
+    ensures memory { IsErrOf result LexFault.NoMemory → IsSome (token_at first rest.now) }
 {
     let lexeme = token_at(alloc, first, rest)?;
     let left = &rest[lexeme.more..];

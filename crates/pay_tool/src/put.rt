@@ -1,6 +1,6 @@
 //! The report, put in pieces.
 
-ghost use Rattle.std.specs.Prelude.{◌≡◌, ◌≤◌, OnOk, IsErrOf, IsTrue, All, length, map};
+ghost use Rattle.std.specs.Prelude.{◌≡◌, ◌≤◌, OnOk, IfErr, IsErrOf, IsTrue, All, length, map};
 ghost use Rattle.std.specs.List.{flat_map};
 ghost use Rattle.pay_edge.specs.Edge.{Rose, appended, AppendsFront};
 ghost use Rattle.pay_tree.specs.Views.{event};
@@ -65,6 +65,7 @@ fn put_piece<O: Sink>(out: &mut O, piece: &[u8]) -> Result<(), PutStop>
     ensures front { AppendsFront (O.text out.old) (O.text out.new) piece.now }
     ensures failed { IsErrOf result PutStop.Failed → Rose (O.faults out.old) (O.faults out.new) }
     ensures never_falls { O.faults out.old ≤ O.faults out.new }
+    ensures no_memory_needed { IfErr result (λ stop. stop ≡ PutStop.Failed) }
 {
     match out.put(piece) {
         Ok(()) => Ok(()),

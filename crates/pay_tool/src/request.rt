@@ -4,7 +4,7 @@ ghost use Rattle.std.specs.Prelude.{◌≡◌, IfOk, IfErr, Some, [], ◌∷◌}
 ghost use Rattle.pay_tool.specs.Requests.{request_of, asked_in};
 ghost use Rattle.pay_tool.specs.RequestViews.{asked_by, StopsWords};
 
-use crate::file_name::FileName;
+use crate::file_name::{FileName, is_name};
 use std::alloc::Global;
 
 /// A command with the files that it names.
@@ -36,7 +36,8 @@ pub enum WordsFault {
 ///
 /// # Errors
 ///
-/// `NotRequest` where the words are no request, `NoMemory` where there was no memory for the names of the files.
+/// `NotRequest` exactly where the words are no request, `NoMemory` where they are one and there was no memory for the
+/// names of the files.
 #[tactic(auto, unfolding(crate::specs::Requests::request_of))]
 pub fn request_of_words(alloc: Global, words: &Vec<String>) -> Result<Request, WordsFault>
     ensures request { IfOk result (λ request. asked_in words.now ≡ Some (asked_by request)) }
@@ -64,7 +65,7 @@ fn run_request(
     ensures request { IfOk result (λ request. request_of (command.now ∷ script.now ∷ scenarios.now ∷ []) ≡ Some (asked_by request)) }
     ensures stopped { IfErr result (StopsWords (request_of (command.now ∷ script.now ∷ scenarios.now ∷ []))) }
 {
-    if command != "run" {
+    if command != "run" || !is_name(script.as_bytes()) || !is_name(scenarios.as_bytes()) {
         return Err(WordsFault::NotRequest);
     }
     let script = match FileName::read(alloc, script) {

@@ -84,6 +84,7 @@ impl Label {
         ensures read { IfOk result (λ label. label ≡ bytes.now) }
         ensures label { OnOk result (IsTrue (is_label bytes.now)) }
         ensures not_label { IsErrOf result LabelFault.NotLabel → is_label bytes.now ≡ false }
+        ensures memory { IsErrOf result LabelFault.NoMemory → IsTrue (is_label bytes.now) }
     {
         if !is_label(bytes) {
             return Err(LabelFault::NotLabel);

@@ -188,6 +188,7 @@ fn read_label(alloc: Global, bytes: &[u8]) -> Result<Label, TableRefusal>
     ensures read { IfOk result (λ label. label ≡ bytes.now) }
     ensures label { OnOk result (IsTrue (is_label bytes.now)) }
     ensures refused { IsErrOf result TableRefusal.NotTable → is_label bytes.now ≡ false }
+    ensures memory { IsErrOf result TableRefusal.NoMemory → IsTrue (is_label bytes.now) }
 {
     match Label::read(alloc, bytes) {
         Ok(label) => Ok(label),

@@ -37,9 +37,9 @@ pub fn run_tool<D: Depot, O: Sink, E: Sink>(
     ensures given { result ≡ 0 → IfSome (D.files depot.old) (λ files. IsGiven (answer_of (asked_in words.now) files)
         result (O.text out.old) (O.text out.new) (D.files depot.old) (D.files depot.new)) }
 
-    // 2: the words are no request.
+    // 2: exactly where the words are no request.
     ensures not_request_only { result ≡ 2 → asked_in words.now ≡ None }
-    ensures not_request { asked_in words.now ≡ None → (result ≡ 2) ⊎ (result ≡ 6) }
+    ensures not_request { asked_in words.now ≡ None → result ≡ 2 }
 
     // 3: an input is refused.
     ensures refused_only { result ≡ 3 → IfSome (D.files depot.old) (λ files. IsRefused (answer_of (asked_in words.now) files)) }
