@@ -1,3 +1,5 @@
+//! The keywords: which one lower-case letters are, if any.
+
 ghost use Rattle.std.specs.Prelude.{◌≡◌, drop};
 ghost use Rattle.pay_tool.specs.Tokens.{key_in, key_of, keys};
 

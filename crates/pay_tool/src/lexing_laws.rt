@@ -1,3 +1,5 @@
+//! Laws of the tokens: a text spells at most one list of tokens, and reading it from the front finds it.
+
 ghost use Rattle.pay_tool.specs.LexingLaws.{TokensAreSpelled, SpelledTokensAreRead, OneTokenList};
 
 /// The tokens that are read from a text are the tokens that it spells: at each place a blank, or the longest token there.

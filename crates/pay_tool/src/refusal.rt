@@ -1,3 +1,5 @@
+//! Why an input is refused.
+
 use pay_dates::Day;
 
 /// Why an input is refused.

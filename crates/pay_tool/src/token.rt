@@ -1,3 +1,5 @@
+//! The tokens of a script.
+
 use pay_dates::Day;
 use std::marker::Model;
 

@@ -21,7 +21,7 @@ use std::alloc::Global;
 /// most 67,108,864 bytes). Then it puts a header, for each scenario the payments that the script makes in it, and a
 /// last line. Nothing is put before both files are accepted, and nothing is fetched after the first that isn't.
 ///
-/// The status is 0 where the report was put whole, 2 where the words are no request, 3 where a file is refused, 4
+/// The status is 0 where the report was put whole, 2 exactly where the words are no request, 3 where a file is refused, 4
 /// where a file is not there or a fetch failed, 5 where a put failed, and 6 where there was no memory. No file is
 /// ever changed, and nothing is put to `err`.
 pub fn run_tool<D: Depot, O: Sink, E: Sink>(
