@@ -16,9 +16,23 @@ mod write;
 pub use fixed::{Fixed, LIMIT};
 pub use read::read_decimal;
 
+use std::alloc::{AllocError, AllocFailed};
+
 /// There was no memory left; nothing was changed.
 #[derive(Clone, Copy, PartialEq, Eq, Debug)]
 pub struct NoMemory;
+
+impl From<AllocError> for NoMemory {
+    fn from(_: AllocError) -> NoMemory {
+        NoMemory
+    }
+}
+
+impl<T: Drop> From<AllocFailed<T>> for NoMemory {
+    fn from(_: AllocFailed<T>) -> NoMemory {
+        NoMemory
+    }
+}
 
 /// Why an arithmetic call has no answer.
 #[derive(Clone, Copy, PartialEq, Eq, Debug)]

@@ -5,7 +5,11 @@ use Rattle.pay_tool.specs.declared.input.InputStop.{InputStop}
 use Rattle.pay_tool.specs.declared.input.InputStop.TheVariants.{Refused, Unread, NoMemory}
 use Rattle.pay_edge.specs.declared.whole.WholeFault.{WholeFault}
 use Rattle.pay_edge.specs.declared.whole.WholeFault.TheVariants as whole
-use Rattle.pay_tool.specs.declared.refusal.Refusal.TheVariants.{TooLong}
+use Rattle.pay_tool.specs.declared.refusal.Refusal.TheVariants.{TooLong, NotTable}
+use Rattle.pay_tool.specs.declared.script.CheckStop.{CheckStop}
+use Rattle.pay_tool.specs.declared.script.CheckStop.TheVariants as script
+use Rattle.pay_tool.specs.declared.table_reader.TableRefusal.{TableRefusal}
+use Rattle.pay_tool.specs.declared.table_reader.TableRefusal.TheVariants as table
 use Rattle.pay_tool.specs.Answers.{Input, not_there, bad}
 
 -- An input is refused for this reason; or it is unread, since the count of its read faults rose or its file is not there;
@@ -16,8 +20,18 @@ StopsAt told input before now Unread = Rose before now ⊎ IsSomeAnd told (λ fi
 StopsAt told input before now NoMemory = Unit {0}
 
 -- the stop of a file that was not read as a whole
-abbrev pub stop_of : WholeFault → InputStop
-stop_of whole.Absent = Unread
-stop_of whole.Failed = Unread
-stop_of whole.TooLong = Refused TooLong
-stop_of whole.NoMemory = NoMemory
+abbrev pub stop_of_file : WholeFault → InputStop
+stop_of_file whole.Absent = Unread
+stop_of_file whole.Failed = Unread
+stop_of_file whole.TooLong = Refused TooLong
+stop_of_file whole.NoMemory = NoMemory
+
+-- the stop of a script that was not accepted
+abbrev pub stop_of_script : CheckStop → InputStop
+stop_of_script (script.Refused refusal) = Refused refusal
+stop_of_script script.NoMemory = NoMemory
+
+-- the stop of a text that is no table
+abbrev pub stop_of_table : TableRefusal → InputStop
+stop_of_table table.NotTable = Refused NotTable
+stop_of_table table.NoMemory = NoMemory

@@ -2,7 +2,22 @@
 use Rattle.std.specs.Prelude.{◌≡◌, ℕ, List}
 use Rattle.pay_tool.specs.declared.script.CheckStop.{CheckStop}
 use Rattle.pay_tool.specs.declared.script.CheckStop.TheVariants.{Refused, NoMemory}
+use Rattle.pay_tool.specs.declared.lexer.LexFault.{LexFault}
+use Rattle.pay_tool.specs.declared.lexer.LexFault.TheVariants as lexing
+use Rattle.pay_tool.specs.declared.parser.ParseFault.{ParseFault}
+use Rattle.pay_tool.specs.declared.parser.ParseFault.TheVariants as parsing
+use Rattle.pay_tool.specs.declared.refusal.Refusal.TheVariants.{NotScript}
 use Rattle.pay_tool.specs.Answers.{Input, bad, checked_script}
+
+-- the stop of a text that was not cut into tokens
+abbrev pub stop_of_lexing : LexFault → CheckStop
+stop_of_lexing lexing.NoToken = Refused NotScript
+stop_of_lexing lexing.NoMemory = NoMemory
+
+-- the stop of tokens that were not read as a script
+abbrev pub stop_of_parsing : ParseFault → CheckStop
+stop_of_parsing parsing.NotScript = Refused NotScript
+stop_of_parsing parsing.NoMemory = NoMemory
 
 -- an input is refused for this reason; of want of memory nothing is said
 abbrev pub Stops : {A : Type 0} → Input A → CheckStop → Type 0

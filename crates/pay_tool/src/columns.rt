@@ -21,9 +21,7 @@ fn places_of(alloc: Global, dates: &[Day]) -> Result<BTreeMap<i32, usize>, NoMem
 {
     let mut places = BTreeMap::new(alloc);
     for index in (0..dates.len()).rev() {
-        if places.insert(dates[index].number(), index).is_err() {
-            return Err(NoMemory);
-        }
+        places.insert(dates[index].number(), index)?;
     }
     Ok(places)
 }
@@ -49,9 +47,7 @@ pub fn columns_of_events(
     let places = places_of(alloc, dates)?;
     let mut columns = Vec::new(alloc);
     for happening in events {
-        if columns.push(place_at(&places, happening.date)).is_err() {
-            return Err(NoMemory);
-        }
+        columns.push(place_at(&places, happening.date))?;
     }
     Ok(columns)
 }

@@ -14,24 +14,20 @@ use pay_fixed::NoMemory;
 use pay_tree::{Item, NamedEvent, Script};
 use std::alloc::Global;
 
-// The events of a script in order of date. A date that two of them share is refused, the earliest one.
+/// The events of a script in order of date. A date that two of them share is refused, the earliest one.
 pub fn events_in_order(alloc: Global, tree: Script) -> Result<Vec<NamedEvent>, CheckStop>
     ensures accepted { IfOk result (λ events. ordered (script tree) ≡ good (map event events.items)) }
     ensures refused { IfErr result (Stops (ordered (script tree))) }
 {
-    let Ok(mut events) = events_of_items(alloc, tree.items) else {
-        return Err(CheckStop::NoMemory);
-    };
-    let Ok(()) = sort_by_date(&mut events) else {
-        return Err(CheckStop::NoMemory);
-    };
+    let mut events = events_of_items(alloc, tree.items)?;
+    sort_by_date(&mut events)?;
     match first_shared_date(&events) {
         Some(date) => Err(CheckStop::Refused(Refusal::SameDate { date })),
         None => Ok(events),
     }
 }
 
-// The event of an item.
+/// The event of an item.
 fn named_event(tree: Item) -> NamedEvent
     ensures { result ≡ named tree }
 {
@@ -45,31 +41,26 @@ fn named_event(tree: Item) -> NamedEvent
     }
 }
 
-// The events of items, in the order of the items.
+/// The events of items, in the order of the items.
 fn events_of_items(alloc: Global, items: Vec<Item>) -> Result<Vec<NamedEvent>, NoMemory>
     ensures { IfOk result (λ events. events.items ≡ map named items.items) }
 {
-    match items
+    let events = items
         .into_iter()
         .map(|tree| named_event(tree))
-        .collect(alloc)
-    {
-        Ok(events) => Ok(events),
-        Err(_) => Err(NoMemory),
-    }
+        .collect(alloc)?;
+    Ok(events)
 }
 
-// Puts events in order of date.
+/// Puts events in order of date.
 fn sort_by_date(events: &mut Vec<NamedEvent>) -> Result<(), NoMemory>
     ensures { OnOk result (map event events.new.items ≡ in_order (map event events.old.items)) }
 {
-    let Ok(()) = events.sort_by_key(|event| event.date.number()) else {
-        return Err(NoMemory);
-    };
+    events.sort_by_key(|event| event.date.number())?;
     Ok(())
 }
 
-// Whether the next of these events is on the same date.
+/// Whether the next of these events is on the same date.
 fn shares_with_next(first: &NamedEvent, rest: &[NamedEvent]) -> bool
     ensures { result ≡ shares_with_next (event first.now) (map event rest.now) }
 {
@@ -79,7 +70,7 @@ fn shares_with_next(first: &NamedEvent, rest: &[NamedEvent]) -> bool
     }
 }
 
-// The date of the first two neighbours that have one date.
+/// The date of the first two neighbours that have one date.
 fn first_shared_date(events: &[NamedEvent]) -> Option<Day>
     ensures { result ≡ shared_date (map event events.now) }
 {

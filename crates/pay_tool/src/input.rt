@@ -4,7 +4,7 @@ ghost use Rattle.std.specs.Prelude.{◌≡◌, ◌+◌, ◌≤◌, IfOk, IfErr, 
 ghost use Rattle.pay_edge.specs.Edge.{OnlyRead};
 ghost use Rattle.pay_tree.specs.Views.{event};
 ghost use Rattle.pay_tool.specs.Answers.{script_of, script_limit, table_of, table_limit, good};
-ghost use Rattle.pay_tool.specs.InputStops.{StopsAt, stop_of};
+ghost use Rattle.pay_tool.specs.InputStops.{StopsAt};
 ghost use Rattle.pay_tool.specs.Tables.{IsGood};
 ghost use Rattle.pay_tool.specs.TableViews.{table};
 
@@ -16,10 +16,10 @@ use pay_edge::{Depot, WholeFault, read_whole};
 use pay_tree::NamedEvent;
 use std::alloc::Global;
 
-// The greatest length of a script file, in bytes.
+/// The greatest length of a script file, in bytes.
 const SCRIPT_LIMIT: u64 = 1_048_576;
 
-// The greatest length of a scenario file, in bytes.
+/// The greatest length of a scenario file, in bytes.
 const TABLE_LIMIT: u64 = 67_108_864;
 
 /// Why an input gave no value.
@@ -31,6 +31,50 @@ pub enum InputStop {
     Unread,
     /// There was no memory.
     NoMemory,
+}
+
+impl From<WholeFault> for InputStop {
+    ghost use Rattle.std.specs.Prelude.{◌≡◌};
+    ghost use Rattle.pay_tool.specs.InputStops.{stop_of_file};
+
+    ghost from_gives = { λ fault stop. stop ≡ stop_of_file fault };
+
+    fn from(fault: WholeFault) -> InputStop {
+        match fault {
+            WholeFault::Absent => InputStop::Unread,
+            WholeFault::Failed => InputStop::Unread,
+            WholeFault::TooLong => InputStop::Refused(Refusal::TooLong),
+            WholeFault::NoMemory => InputStop::NoMemory,
+        }
+    }
+}
+
+impl From<CheckStop> for InputStop {
+    ghost use Rattle.std.specs.Prelude.{◌≡◌};
+    ghost use Rattle.pay_tool.specs.InputStops.{stop_of_script};
+
+    ghost from_gives = { λ fault stop. stop ≡ stop_of_script fault };
+
+    fn from(fault: CheckStop) -> InputStop {
+        match fault {
+            CheckStop::Refused(refusal) => InputStop::Refused(refusal),
+            CheckStop::NoMemory => InputStop::NoMemory,
+        }
+    }
+}
+
+impl From<TableRefusal> for InputStop {
+    ghost use Rattle.std.specs.Prelude.{◌≡◌};
+    ghost use Rattle.pay_tool.specs.InputStops.{stop_of_table};
+
+    ghost from_gives = { λ fault stop. stop ≡ stop_of_table fault };
+
+    fn from(fault: TableRefusal) -> InputStop {
+        match fault {
+            TableRefusal::NotTable => InputStop::Refused(Refusal::NotTable),
+            TableRefusal::NoMemory => InputStop::NoMemory,
+        }
+    }
 }
 
 /// The events of the script file `name` in order of date.
@@ -50,15 +94,9 @@ pub fn read_script<D: Depot>(
     ensures stopped { IfErr result (StopsAt (D.files depot.old) (λ files. script_of files name.now)
         (D.read_faults depot.old name.now) (D.read_faults depot.new name.now)) }
 {
-    let bytes = match read_whole(alloc, depot, name, SCRIPT_LIMIT) {
-        Ok(bytes) => bytes,
-        Err(fault) => return Err(stop_of(fault)),
-    };
-    match check_script(alloc, bytes.as_slice()) {
-        Ok(events) => Ok(events),
-        Err(CheckStop::Refused(refusal)) => Err(InputStop::Refused(refusal)),
-        Err(CheckStop::NoMemory) => Err(InputStop::NoMemory),
-    }
+    let bytes = read_whole(alloc, depot, name, SCRIPT_LIMIT)?;
+    let events = check_script(alloc, bytes.as_slice())?;
+    Ok(events)
 }
 
 /// The table of the scenario file `name`.
@@ -80,25 +118,7 @@ pub fn read_table<D: Depot>(
     ensures stopped { IfErr result (StopsAt (D.files depot.old) (λ files. table_of files name.now)
         (D.read_faults depot.old name.now) (D.read_faults depot.new name.now)) }
 {
-    let bytes = match read_whole(alloc, depot, name, TABLE_LIMIT) {
-        Ok(bytes) => bytes,
-        Err(fault) => return Err(stop_of(fault)),
-    };
-    match read_scenarios(alloc, bytes.as_slice()) {
-        Ok(scenarios) => Ok(scenarios),
-        Err(TableRefusal::NotTable) => Err(InputStop::Refused(Refusal::NotTable)),
-        Err(TableRefusal::NoMemory) => Err(InputStop::NoMemory),
-    }
-}
-
-// The stop of a file that was not read as a whole.
-fn stop_of(fault: WholeFault) -> InputStop
-    ensures { result ≡ stop_of fault }
-{
-    match fault {
-        WholeFault::Absent => InputStop::Unread,
-        WholeFault::Failed => InputStop::Unread,
-        WholeFault::TooLong => InputStop::Refused(Refusal::TooLong),
-        WholeFault::NoMemory => InputStop::NoMemory,
-    }
+    let bytes = read_whole(alloc, depot, name, TABLE_LIMIT)?;
+    let scenarios = read_scenarios(alloc, bytes.as_slice())?;
+    Ok(scenarios)
 }

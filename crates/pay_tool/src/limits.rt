@@ -25,7 +25,7 @@ const MOST_VARIABLES: usize = 1_024;
 
 const MOST_LEGS: usize = 256;
 
-// Whether a script and its tokens keep every limit.
+/// Whether a script and its tokens keep every limit.
 #[tactic(auto, unfolding(crate::specs::Limits::is_within_limits))]
 pub fn is_within_limits(alloc: Global, tokens: &[Token], tree: &Script) -> Result<bool, NoMemory>
     ensures { IfOk result (λ within. within ≡ is_within_limits tokens.now (script tree.now)) }
@@ -40,7 +40,7 @@ pub fn is_within_limits(alloc: Global, tokens: &[Token], tree: &Script) -> Resul
     Ok(variable_count(alloc, items)? <= MOST_VARIABLES && leg_count(alloc, items)? <= MOST_LEGS)
 }
 
-// How many operators a token is: 1 or 0.
+/// How many operators a token is: 1 or 0.
 fn operators_of(token: &Token) -> u32
     ensures value { result ≡ operators_of token.now }
     ensures small { result ≤ 1 }
@@ -67,7 +67,7 @@ fn is_word(token: &Token) -> bool
     }
 }
 
-// Whether a stretch begins between two neighbours.
+/// Whether a stretch begins between two neighbours.
 fn begins_between(token: &Token, following: &Token) -> bool
     ensures { result ≡ begins_between token.now following.now }
 {
@@ -82,7 +82,7 @@ fn begins_between(token: &Token, following: &Token) -> bool
     }
 }
 
-// The operators since the stretch began, behind a token and before the rest.
+/// The operators since the stretch began, behind a token and before the rest.
 fn carried(token: &Token, rest: &[Token], count: u32) -> u32
     ensures value { result ≡ carried token.now rest.now count }
     ensures small { result ≤ count }
@@ -99,7 +99,7 @@ fn carried(token: &Token, rest: &[Token], count: u32) -> u32
     }
 }
 
-// Whether no stretch has more operators than there may be.
+/// Whether no stretch has more operators than there may be.
 fn stretches_are_within(tokens: &[Token]) -> bool
     ensures { result ≡ stretches_within MOST_OPERATORS 0 tokens.now }
 {
@@ -116,7 +116,7 @@ fn stretches_are_within(tokens: &[Token]) -> bool
     true
 }
 
-// The parts of a number, with itself.
+/// The parts of a number, with itself.
 fn number_size(tree: &Expr) -> u64
     ensures { result ≡ counted (number_size (number tree.now)) }
 {
@@ -130,7 +130,7 @@ fn number_size(tree: &Expr) -> u64
     }
 }
 
-// A statement and the parts of its number.
+/// A statement and the parts of its number.
 fn statement_size(tree: &Stmt) -> u64
     ensures { result ≡ counted (statement_size (statement tree.now)) }
 {
@@ -140,7 +140,7 @@ fn statement_size(tree: &Stmt) -> u64
     }
 }
 
-// The numbers and statements of a body.
+/// The numbers and statements of a body.
 fn body_size(statements: &[Stmt]) -> u64
     ensures { result ≡ counted (body_size (body statements.now)) }
 {
@@ -151,7 +151,7 @@ fn body_size(statements: &[Stmt]) -> u64
     size
 }
 
-// The numbers and statements of items.
+/// The numbers and statements of items.
 fn script_size(items: &[Item]) -> u64
     ensures { result ≡ counted (script_size (map item items.now)) }
 {
@@ -179,7 +179,7 @@ fn pays_of(tree: &Stmt) -> u64
     }
 }
 
-// The payment statements of a body.
+/// The payment statements of a body.
 fn body_pays(statements: &[Stmt]) -> u64
     ensures { result ≡ counted (body_pays (body statements.now)) }
 {
@@ -198,7 +198,7 @@ fn item_pays(tree: &Item) -> u64
     }
 }
 
-// The payment statements of items.
+/// The payment statements of items.
 fn script_pays(items: &[Item]) -> u64
     ensures { result ≡ counted (script_pays (map item items.now)) }
 {
@@ -209,7 +209,7 @@ fn script_pays(items: &[Item]) -> u64
     pays
 }
 
-// How many different variables items name.
+/// How many different variables items name.
 #[tactic(auto, using(crate::proofs::LimitLemmas::gathered_all))]
 fn variable_count(alloc: Global, items: &[Item]) -> Result<usize, NoMemory>
     ensures { IfOk result (λ count. count ≡ name_count (script_variables (map item items.now))) }
@@ -219,7 +219,7 @@ fn variable_count(alloc: Global, items: &[Item]) -> Result<usize, NoMemory>
     Ok(names.len())
 }
 
-// Adds the variables of items to a set.
+/// Adds the variables of items to a set.
 #[tactic(auto, using(crate::proofs::LimitLemmas::gathered_append))]
 fn note_variables_of_items(
     alloc: Global,
@@ -234,7 +234,7 @@ fn note_variables_of_items(
     Ok(())
 }
 
-// Adds the variables of an item to a set.
+/// Adds the variables of an item to a set.
 fn note_item_variables(alloc: Global, tree: &Item, names: &mut NameSet) -> Result<(), NoMemory>
     ensures { OnOk result (names.new ≡ gathered names.old (item_variables (item tree.now))) }
 {
@@ -257,7 +257,7 @@ fn note_body_variables(
     Ok(())
 }
 
-// Adds the variables of a statement to a set.
+/// Adds the variables of a statement to a set.
 #[tactic(auto, using(crate::proofs::LimitLemmas::gathered_append))]
 fn note_variables(alloc: Global, tree: &Stmt, names: &mut NameSet) -> Result<(), NoMemory>
     ensures { OnOk result (names.new ≡ gathered names.old (statement_variables (statement tree.now))) }
@@ -271,7 +271,7 @@ fn note_variables(alloc: Global, tree: &Stmt, names: &mut NameSet) -> Result<(),
     }
 }
 
-// Adds the variables of a number to a set.
+/// Adds the variables of a number to a set.
 #[tactic(auto, using(crate::proofs::LimitLemmas::gathered_append))]
 fn note_number_variables(alloc: Global, tree: &Expr, names: &mut NameSet) -> Result<(), NoMemory>
     ensures { OnOk result (names.new ≡ gathered names.old (number_variables (number tree.now))) }
@@ -288,7 +288,7 @@ fn note_number_variables(alloc: Global, tree: &Expr, names: &mut NameSet) -> Res
     }
 }
 
-// How many different legs items name.
+/// How many different legs items name.
 #[tactic(auto, using(crate::proofs::LimitLemmas::gathered_all))]
 fn leg_count(alloc: Global, items: &[Item]) -> Result<usize, NoMemory>
     ensures { IfOk result (λ count. count ≡ name_count (script_legs (map item items.now))) }
@@ -298,7 +298,7 @@ fn leg_count(alloc: Global, items: &[Item]) -> Result<usize, NoMemory>
     Ok(names.len())
 }
 
-// Adds the legs of items to a set.
+/// Adds the legs of items to a set.
 #[tactic(auto, using(crate::proofs::LimitLemmas::gathered_append))]
 fn note_legs_of_items(alloc: Global, items: &[Item], names: &mut NameSet) -> Result<(), NoMemory>
     ensures { OnOk result (names.new ≡ gathered names.old (script_legs (map item items.now))) }
@@ -309,7 +309,7 @@ fn note_legs_of_items(alloc: Global, items: &[Item], names: &mut NameSet) -> Res
     Ok(())
 }
 
-// Adds the legs of an item to a set.
+/// Adds the legs of an item to a set.
 fn note_item_legs(alloc: Global, tree: &Item, names: &mut NameSet) -> Result<(), NoMemory>
     ensures { OnOk result (names.new ≡ gathered names.old (item_legs (item tree.now))) }
 {
@@ -328,7 +328,7 @@ fn note_body_legs(alloc: Global, statements: &[Stmt], names: &mut NameSet) -> Re
     Ok(())
 }
 
-// Adds the leg of a statement to a set, if it has one.
+/// Adds the leg of a statement to a set, if it has one.
 fn note_leg(alloc: Global, tree: &Stmt, names: &mut NameSet) -> Result<(), NoMemory>
     ensures { OnOk result (names.new ≡ gathered names.old (statement_legs (statement tree.now))) }
 {

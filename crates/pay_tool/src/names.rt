@@ -63,7 +63,7 @@ impl NameSet {
     }
 }
 
-// No names in order.
+/// No names in order.
 fn no_names(alloc: Global) -> BTreeSet<Name>
     ensures empty { set_of result.keys ≡ set.empty }
     ensures counted { IsCounted result.keys }
@@ -71,14 +71,12 @@ fn no_names(alloc: Global) -> BTreeSet<Name>
     BTreeSet::new(alloc)
 }
 
-// Puts a name among others.
+/// Puts a name among others.
 fn add_name(names: &mut BTreeSet<Name>, name: Name) -> Result<(), NoMemory>
     ensures added { OnOk result (set_of names.new.keys ≡ set.insert (set_of names.old.keys) name) }
     ensures counted { IsCounted names.old.keys → IsCounted names.new.keys }
     ensures err { OnErr result (names.new.keys ≡ names.old.keys) }
 {
-    let Ok(_added) = names.insert(name) else {
-        return Err(NoMemory);
-    };
+    names.insert(name)?;
     Ok(())
 }

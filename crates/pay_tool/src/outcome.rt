@@ -1,9 +1,10 @@
 //! How a run of the tool ended.
 
 ghost use Rattle.std.specs.Prelude.{◌≡◌};
-ghost use Rattle.pay_tool.specs.Outcomes.{status_of, outcome_at};
+ghost use Rattle.pay_tool.specs.Outcomes.{status_of};
 
 use crate::input::InputStop;
+use crate::put::PutStop;
 use crate::refusal::Refusal;
 
 /// How a run of the tool ended.
@@ -23,14 +24,32 @@ pub enum Outcome {
     NoMemory,
 }
 
-/// The outcome of a run that stopped at an input.
-pub fn outcome_at(stop: InputStop) -> Outcome
-    ensures { result ≡ outcome_at stop }
-{
-    match stop {
-        InputStop::Refused(refusal) => Outcome::Refused(refusal),
-        InputStop::Unread => Outcome::Unread,
-        InputStop::NoMemory => Outcome::NoMemory,
+impl From<InputStop> for Outcome {
+    ghost use Rattle.std.specs.Prelude.{◌≡◌};
+    ghost use Rattle.pay_tool.specs.Outcomes.{outcome_at};
+
+    ghost from_gives = { λ stop outcome. outcome ≡ outcome_at stop };
+
+    fn from(stop: InputStop) -> Outcome {
+        match stop {
+            InputStop::Refused(refusal) => Outcome::Refused(refusal),
+            InputStop::Unread => Outcome::Unread,
+            InputStop::NoMemory => Outcome::NoMemory,
+        }
+    }
+}
+
+impl From<PutStop> for Outcome {
+    ghost use Rattle.std.specs.Prelude.{◌≡◌};
+    ghost use Rattle.pay_tool.specs.Outcomes.{outcome_of_put};
+
+    ghost from_gives = { λ stop outcome. outcome ≡ outcome_of_put stop };
+
+    fn from(stop: PutStop) -> Outcome {
+        match stop {
+            PutStop::Failed => Outcome::Unwritten,
+            PutStop::NoMemory => Outcome::NoMemory,
+        }
     }
 }
 

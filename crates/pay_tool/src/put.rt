@@ -13,13 +13,14 @@ use crate::run_row::{columns_of_events, write_row_lines};
 use crate::scenarios::{ScenarioRow, Scenarios};
 use pay_dates::Day;
 use pay_edge::Sink;
+use pay_fixed::NoMemory;
 use pay_tree::NamedEvent;
 use std::alloc::Global;
 
-// The first line of a report.
+/// The first line of a report.
 const HEADER_LINE: &[u8] = b"scenario,date,leg,amount\n";
 
-// The last line of a report.
+/// The last line of a report.
 const LAST_LINE: &[u8] = b"#nodes,,,\n";
 
 /// Why a report was not put whole.
@@ -29,6 +30,17 @@ pub enum PutStop {
     Failed,
     /// There was no memory.
     NoMemory,
+}
+
+impl From<NoMemory> for PutStop {
+    ghost use Rattle.std.specs.Prelude.{◌≡◌};
+    ghost use Rattle.pay_tool.specs.declared.put.PutStop.{PutStop};
+
+    ghost from_gives = { λ _ stop. stop ≡ PutStop.NoMemory };
+
+    fn from(_: NoMemory) -> PutStop {
+        PutStop::NoMemory
+    }
 }
 
 /// Puts the report of events over a table of scenarios: the header, the lines of each scenario that has lines, in one
@@ -51,15 +63,13 @@ pub fn put_report<O: Sink>(
 {
     let dates = scenarios.dates.as_slice();
     let rows = scenarios.rows.as_slice();
-    let Ok(columns) = columns_of_events(alloc, events, dates) else {
-        return Err(PutStop::NoMemory);
-    };
+    let columns = columns_of_events(alloc, events, dates)?;
     put_piece(out, HEADER_LINE)?;
     put_rows(alloc, events, columns.as_slice(), dates, rows, out)?;
     put_piece(out, LAST_LINE)
 }
 
-// Puts one piece.
+/// Puts one piece.
 fn put_piece<O: Sink>(out: &mut O, piece: &[u8]) -> Result<(), PutStop>
     ensures ok { OnOk result (O.text out.new ≡ appended (O.text out.old) piece.now) }
     ensures front { AppendsFront (O.text out.old) (O.text out.new) piece.now }
@@ -73,7 +83,7 @@ fn put_piece<O: Sink>(out: &mut O, piece: &[u8]) -> Result<(), PutStop>
     }
 }
 
-// Puts the lines of one scenario, if it has any.
+/// Puts the lines of one scenario, if it has any.
 fn put_row<O: Sink>(
     alloc: Global,
     events: &[NamedEvent],
@@ -91,16 +101,14 @@ fn put_row<O: Sink>(
     ensures never_falls { O.faults out.old ≤ O.faults out.new }
 {
     let mut lines = Vec::new(alloc);
-    if write_row_lines(alloc, events, columns, dates, scenario, &mut lines).is_err() {
-        return Err(PutStop::NoMemory);
-    }
+    write_row_lines(alloc, events, columns, dates, scenario, &mut lines)?;
     if lines.is_empty() {
         return Ok(());
     }
     put_piece(out, lines.as_slice())
 }
 
-// Puts the lines of scenarios in their order.
+/// Puts the lines of scenarios in their order.
 fn put_rows<O: Sink>(
     alloc: Global,
     events: &[NamedEvent],

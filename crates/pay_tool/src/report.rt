@@ -18,10 +18,8 @@ fn put_bytes(bytes: &[u8], into: &mut Vec<u8>) -> Result<(), NoMemory>
     ensures ok { OnOk result (into.new.items ≡ into.old.items ++ bytes.now) }
     ensures err { OnErr result ((more : List ℕ) × (into.new.items ≡ into.old.items ++ more)) }
 {
-    match into.extend_from_slice(bytes) {
-        Ok(()) => Ok(()),
-        Err(_) => Err(NoMemory),
-    }
+    into.extend_from_slice(bytes)?;
+    Ok(())
 }
 
 /// Appends a byte; where there is no room, nothing.
@@ -29,10 +27,8 @@ fn put_byte(byte: u8, into: &mut Vec<u8>) -> Result<(), NoMemory>
     ensures ok { OnOk result (into.new.items ≡ into.old.items ++ byte ∷ []) }
     ensures err { OnErr result ((more : List ℕ) × (into.new.items ≡ into.old.items ++ more)) }
 {
-    match into.push(byte) {
-        Ok(()) => Ok(()),
-        Err(_) => Err(NoMemory),
-    }
+    into.push(byte)?;
+    Ok(())
 }
 
 /// Appends a date; where there is no room, nothing.

@@ -54,7 +54,7 @@ pub fn request_of_words(alloc: Global, words: &Vec<String>) -> Result<Request, W
     }
 }
 
-// The request of three words.
+/// The request of three words.
 #[tactic(auto, unfolding(crate::specs::Requests::request_of))]
 fn run_request(
     alloc: Global,
@@ -68,13 +68,7 @@ fn run_request(
     if command != "run" || !is_name(script.as_bytes()) || !is_name(scenarios.as_bytes()) {
         return Err(WordsFault::NotRequest);
     }
-    let script = match FileName::read(alloc, script) {
-        Ok(script) => script,
-        Err(fault) => return Err(fault),
-    };
-    let scenarios = match FileName::read(alloc, scenarios) {
-        Ok(scenarios) => scenarios,
-        Err(fault) => return Err(fault),
-    };
+    let script = FileName::read(alloc, script)?;
+    let scenarios = FileName::read(alloc, scenarios)?;
     Ok(Request::Run(RunWords { script, scenarios }))
 }

@@ -7,8 +7,8 @@ ghost use Rattle.pay_tool.specs.Fetches.{most_fetches};
 ghost use Rattle.pay_tool.specs.Requests as asked;
 
 use crate::input::{read_script, read_table};
-use crate::outcome::{Outcome, outcome_at};
-use crate::put::{PutStop, put_report};
+use crate::outcome::Outcome;
+use crate::put::put_report;
 use pay_edge::{Depot, Sink};
 use std::alloc::Global;
 
@@ -28,15 +28,14 @@ pub fn run<D: Depot, O: Sink>(
 {
     let events = match read_script(alloc, depot, script) {
         Ok(events) => events,
-        Err(stop) => return outcome_at(stop),
+        Err(stop) => return Outcome::from(stop),
     };
     let table = match read_table(alloc, depot, scenarios) {
         Ok(table) => table,
-        Err(stop) => return outcome_at(stop),
+        Err(stop) => return Outcome::from(stop),
     };
     match put_report(alloc, events.as_slice(), &table, out) {
         Ok(()) => Outcome::Done,
-        Err(PutStop::Failed) => Outcome::Unwritten,
-        Err(PutStop::NoMemory) => Outcome::NoMemory,
+        Err(stop) => Outcome::from(stop),
     }
 }

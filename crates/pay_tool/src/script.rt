@@ -12,14 +12,56 @@ use crate::limits::is_within_limits;
 use crate::parser::{ParseFault, parse};
 use crate::refusal::Refusal;
 use crate::token::Token;
+use pay_fixed::NoMemory;
 use pay_tree::NamedEvent;
 use std::alloc::Global;
 
 /// Why a text gave no value: it is refused, or there was no memory.
 #[derive(Clone, Copy, PartialEq, Eq, Debug)]
 pub enum CheckStop {
+    /// The text is refused.
     Refused(Refusal),
+    /// There was no memory.
     NoMemory,
+}
+
+impl From<LexFault> for CheckStop {
+    ghost use Rattle.std.specs.Prelude.{◌≡◌};
+    ghost use Rattle.pay_tool.specs.Stops.{stop_of_lexing};
+
+    ghost from_gives = { λ fault stop. stop ≡ stop_of_lexing fault };
+
+    fn from(fault: LexFault) -> CheckStop {
+        match fault {
+            LexFault::NoToken => CheckStop::Refused(Refusal::NotScript),
+            LexFault::NoMemory => CheckStop::NoMemory,
+        }
+    }
+}
+
+impl From<ParseFault> for CheckStop {
+    ghost use Rattle.std.specs.Prelude.{◌≡◌};
+    ghost use Rattle.pay_tool.specs.Stops.{stop_of_parsing};
+
+    ghost from_gives = { λ fault stop. stop ≡ stop_of_parsing fault };
+
+    fn from(fault: ParseFault) -> CheckStop {
+        match fault {
+            ParseFault::NotScript => CheckStop::Refused(Refusal::NotScript),
+            ParseFault::NoMemory => CheckStop::NoMemory,
+        }
+    }
+}
+
+impl From<NoMemory> for CheckStop {
+    ghost use Rattle.std.specs.Prelude.{◌≡◌};
+    ghost use Rattle.pay_tool.specs.declared.script.CheckStop.{CheckStop};
+
+    ghost from_gives = { λ _ stop. stop ≡ CheckStop.NoMemory };
+
+    fn from(_: NoMemory) -> CheckStop {
+        CheckStop::NoMemory
+    }
 }
 
 /// The events of a script's text, in order of date.
@@ -34,26 +76,18 @@ pub fn check_script(alloc: Global, text: &[u8]) -> Result<Vec<NamedEvent>, Check
     ensures accepted { IfOk result (λ events. checked_script text.now ≡ good (map event events.items)) }
     ensures refused { IfErr result (StopsScript text.now) }
 {
-    match lex(alloc, text) {
-        Ok(tokens) => check_tokens(alloc, tokens.as_slice()),
-        Err(LexFault::NoToken) => Err(CheckStop::Refused(Refusal::NotScript)),
-        Err(LexFault::NoMemory) => Err(CheckStop::NoMemory),
-    }
+    let tokens = lex(alloc, text)?;
+    check_tokens(alloc, tokens.as_slice())
 }
 
-// The events of the script that tokens spell.
+/// The events of the script that tokens spell.
 fn check_tokens(alloc: Global, tokens: &[Token]) -> Result<Vec<NamedEvent>, CheckStop>
     ensures accepted { IfOk result (λ events. script_if tokens.now (script_in tokens.now) ≡ good (map event events.items)) }
     ensures refused { IfErr result (Stops (script_if tokens.now (script_in tokens.now))) }
 {
-    let tree = match parse(alloc, tokens) {
-        Ok(tree) => tree,
-        Err(ParseFault::NotScript) => return Err(CheckStop::Refused(Refusal::NotScript)),
-        Err(ParseFault::NoMemory) => return Err(CheckStop::NoMemory),
-    };
-    match is_within_limits(alloc, tokens, &tree) {
-        Ok(true) => events_in_order(alloc, tree),
-        Ok(false) => Err(CheckStop::Refused(Refusal::NotScript)),
-        Err(_) => Err(CheckStop::NoMemory),
+    let tree = parse(alloc, tokens)?;
+    if !is_within_limits(alloc, tokens, &tree)? {
+        return Err(CheckStop::Refused(Refusal::NotScript));
     }
+    events_in_order(alloc, tree)
 }

@@ -10,7 +10,7 @@ ghost use Rattle.pay_tool.specs.TableViews.{row, table};
 use crate::scenarios::{Label, LabelFault, ScenarioRow, Scenarios};
 use pay_dates::{Day, read_day};
 use pay_fixed::{Fixed, read_decimal};
-use std::alloc::Global;
+use std::alloc::{AllocError, AllocFailed, Global};
 use std::collections::BTreeSet;
 
 /// Why a text gave no table.
@@ -20,6 +20,42 @@ pub enum TableRefusal {
     NotTable,
     /// There was no memory for the table.
     NoMemory,
+}
+
+impl From<AllocError> for TableRefusal {
+    ghost use Rattle.std.specs.Prelude.{◌≡◌};
+    ghost use Rattle.pay_tool.specs.declared.table_reader.TableRefusal.{TableRefusal};
+
+    ghost from_gives = { λ _ refusal. refusal ≡ TableRefusal.NoMemory };
+
+    fn from(_: AllocError) -> TableRefusal {
+        TableRefusal::NoMemory
+    }
+}
+
+impl<T: Drop> From<AllocFailed<T>> for TableRefusal {
+    ghost use Rattle.std.specs.Prelude.{◌≡◌};
+    ghost use Rattle.pay_tool.specs.declared.table_reader.TableRefusal.{TableRefusal};
+
+    ghost from_gives = { λ _ refusal. refusal ≡ TableRefusal.NoMemory };
+
+    fn from(_: AllocFailed<T>) -> TableRefusal {
+        TableRefusal::NoMemory
+    }
+}
+
+impl From<LabelFault> for TableRefusal {
+    ghost use Rattle.std.specs.Prelude.{◌≡◌};
+    ghost use Rattle.pay_tool.specs.TableViews.{refusal_of_label};
+
+    ghost from_gives = { λ fault refusal. refusal ≡ refusal_of_label fault };
+
+    fn from(fault: LabelFault) -> TableRefusal {
+        match fault {
+            LabelFault::NotLabel => TableRefusal::NotTable,
+            LabelFault::NoMemory => TableRefusal::NoMemory,
+        }
+    }
 }
 
 /// The greatest number of dates.
@@ -103,21 +139,15 @@ fn read_cells(
     ensures read { IfOk result (λ cells. full_if columns (each_in cell_in (pieces_if 44 (option_copied text.entry))) ≡ Some cells.items) }
     ensures refused { IsErrOf result TableRefusal.NotTable → full_if columns (each_in cell_in (pieces_if 44 (option_copied text.entry))) ≡ None }
 {
-    let Ok(mut cells) = Vec::with_capacity(alloc, columns) else {
-        return Err(TableRefusal::NoMemory);
-    };
+    let mut cells = Vec::with_capacity(alloc, columns)?;
     let mut rest = text;
     while let Some(left) = rest {
         if cells.len() == columns {
             return Err(TableRefusal::NotTable);
         }
         let (piece, behind) = first_piece(left, b',');
-        let Some(cell) = read_cell(piece) else {
-            return Err(TableRefusal::NotTable);
-        };
-        if cells.push(cell).is_err() {
-            return Err(TableRefusal::NoMemory);
-        }
+        let cell = read_cell(piece).ok_or(TableRefusal::NotTable)?;
+        cells.push(cell)?;
         rest = behind;
     }
     if cells.len() != columns {
@@ -139,12 +169,8 @@ fn read_dates(alloc: Global, text: Option<&[u8]>) -> Result<Vec<Day>, TableRefus
             return Err(TableRefusal::NotTable);
         }
         let (piece, behind) = first_piece(left, b',');
-        let Some(date) = read_date(piece) else {
-            return Err(TableRefusal::NotTable);
-        };
-        if dates.push(date).is_err() {
-            return Err(TableRefusal::NoMemory);
-        }
+        let date = read_date(piece).ok_or(TableRefusal::NotTable)?;
+        dates.push(date)?;
         rest = behind;
     }
     Ok(dates)
@@ -157,9 +183,7 @@ fn are_distinct(alloc: Global, dates: &[Day]) -> Result<bool, TableRefusal>
 {
     let mut seen = BTreeSet::new(alloc);
     for date in dates {
-        let Ok(added) = seen.insert(date.number()) else {
-            return Err(TableRefusal::NoMemory);
-        };
+        let added = seen.insert(date.number())?;
         if !added {
             return Ok(false);
         }
@@ -190,11 +214,8 @@ fn read_label(alloc: Global, bytes: &[u8]) -> Result<Label, TableRefusal>
     ensures refused { IsErrOf result TableRefusal.NotTable → is_label bytes.now ≡ false }
     ensures memory { IsErrOf result TableRefusal.NoMemory → IsTrue (is_label bytes.now) }
 {
-    match Label::read(alloc, bytes) {
-        Ok(label) => Ok(label),
-        Err(LabelFault::NotLabel) => Err(TableRefusal::NotTable),
-        Err(LabelFault::NoMemory) => Err(TableRefusal::NoMemory),
-    }
+    let label = Label::read(alloc, bytes)?;
+    Ok(label)
 }
 
 /// The row of a line: a label, and then a cell for each column.
@@ -232,9 +253,7 @@ fn read_rows(
             return Err(TableRefusal::NotTable);
         }
         let row = read_row(alloc, line, columns)?;
-        if rows.push(row).is_err() {
-            return Err(TableRefusal::NoMemory);
-        }
+        rows.push(row)?;
         rest = behind;
     }
     Err(TableRefusal::NotTable)

@@ -90,7 +90,7 @@ pub fn run_tool<D: Depot, O: Sink, E: Sink>(
     status_of(outcome)
 }
 
-// Does what the words ask for.
+/// Does what the words ask for.
 fn serve<D: Depot, O: Sink>(
     alloc: Global,
     words: &Vec<String>,

@@ -7,4 +7,4 @@ use Rattle.pay_tool.proofs.events.sort_by_date.Goals as goal
 pub returns : goal.returns
 returns c =
     let keys = answers_always _ _ _ (λ f a r g h. search rules) in
-    sorted-in_order c.args.events.now.items c.sort_by_key.new.self.items (c.in-Ok.ensures.sorted date_number keys) (c.sort_by_key.ensures.stable date_number keys)
+    sorted-in_order c.args.events.now.items c.sort_by_key.new.self.items (c.in_ok-sort_by_key.ensures.sorted date_number keys) (c.sort_by_key.ensures.stable date_number keys)

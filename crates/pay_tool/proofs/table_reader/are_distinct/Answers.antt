@@ -11,7 +11,7 @@ use Rattle.pay_tool.proofs.table_reader.are_distinct.Goals as goal
 pub returns-then-not-added-clause-distinct : goal.returns-then-not-added-clause-distinct
 returns-then-not-added-clause-distinct c =
     let fits : SFits w32 c.number.result = search rules in
-    let e : c.in-Ok.added ≡ not (contains int_cmp c.loop-date.seen c.number.result) = simp to_z-of_z at c.in-Ok.ensures.added in
+    let e : c.in_ok-added.added ≡ not (contains int_cmp c.loop-date.seen c.number.result) = simp to_z-of_z at c.in_ok-added.ensures.added in
     let old = not-false _ (sym e ∙ c.if-not-added.true) in
     let among = rw c.number.ensures.number at (sym (c.loop-date.invariant.1 c.number.result) ∙ old) in
     sym (distinct-repeat c.args.dates.now c.loop-date.date-index c.date-item.result (omega arith) c.date-item.is among)
@@ -19,8 +19,8 @@ returns-then-not-added-clause-distinct c =
 pub loop-date-preserved : goal.loop-date-preserved
 loop-date-preserved c =
     let fits : SFits w32 c.number.result = search rules in
-    let e : c.in-Ok.added ≡ not (contains int_cmp c.loop-date.seen c.number.result) = simp to_z-of_z at c.in-Ok.ensures.added in
-    let updates : (n : ℤ) → contains int_cmp c.insert.new.self n ≡ cond (int_eq c.number.result n) true (contains int_cmp c.loop-date.seen n) = simp to_z-of_z at c.in-Ok.ensures.updates.0 in
+    let e : c.in_ok-added.added ≡ not (contains int_cmp c.loop-date.seen c.number.result) = simp to_z-of_z at c.in_ok-added.ensures.added in
+    let updates : (n : ℤ) → contains int_cmp c.insert.new.self n ≡ cond (int_eq c.number.result n) true (contains int_cmp c.loop-date.seen n) = simp to_z-of_z at c.in_ok-added.ensures.updates.0 in
     let new = not-true _ (sym e ∙ c.if-not-added.false) in
     let among = rw c.number.ensures.number at (sym (c.loop-date.invariant.1 c.number.result) ∙ new) in
     let small : c.loop-date.date-index < length c.args.dates.now = omega arith in (
