@@ -1,5 +1,5 @@
 -- The parser's own state as the plain data of the reading.
-use Rattle.std.specs.Prelude.{◌≡◌, map, Option, Some, None, Result, Ok, Err, Vec}
+use Rattle.std.specs.Prelude.{◌≡◌, map, Option, Some, None, IsSome, Result, Ok, Err, Vec}
 use Rattle.std.specs.Global.{Global}
 use Rattle.pay_meaning.specs.Language.{Script}
 use Rattle.pay_tree.specs.declared.tree.Item.{Item as ItemTree}
@@ -50,8 +50,8 @@ abbrev pub state : StateTree → State
 state state_tree.Start = start
 state (state_tree.Inside o p) = inside (opened o) (place p)
 
--- what a function of the parser gives: what the definition gives, as a tree, or a refusal where it gives nothing; a want of memory says nothing
+-- what a function of the parser gives: what the definition gives, as a tree, and a refusal exactly where it gives nothing; memory is wanted only where it gives something
 abbrev pub Gives : {A B : Type 0} → (A → B) → Result A ParseFault → Option B → Type 0
 Gives view (Ok tree) given = given ≡ Some (view tree)
 Gives view (Err NotScript) given = given ≡ None
-Gives view (Err NoMemory) given = Unit {0}
+Gives view (Err NoMemory) given = IsSome given

@@ -146,10 +146,17 @@ fn with_statement(mut open: Open, statement: Stmt) -> Result<Open, ParseFault>
     Ok(open)
 }
 
-/// What is open, with the statement that a number ends.
-fn with_number(open: Open, head: Head, value: Expr) -> Result<Open, ParseFault>
-    ensures { Gives view.opened result (Some (reading.with_statement (view.opened «open») (reading.headed (view.head head) (tree_of.number value)))) }
+/// What is open, with the statement whose number an atom ends.
+fn with_number(
+    alloc: Global,
+    open: Open,
+    head: Head,
+    left: Left,
+    atom: Expr,
+) -> Result<Open, ParseFault>
+    ensures { Gives view.opened result (Some (reading.with_statement (view.opened «open») (reading.headed (view.head head) (reading.joined (view.left left) (tree_of.number atom))))) }
 {
+    let value = joined(alloc, left, atom)?;
     with_statement(open, headed(head, value))
 }
 
@@ -174,10 +181,18 @@ fn dated(alloc: Global, items: Vec<Item>, date: Day) -> State
     State::Inside(Open { items, date, body }, Place::Free)
 }
 
+/// The place where an atom is awaited, behind what stands left of it.
+fn wanting(open: Open, head: Head, left: Left) -> State
+    ensures { view.state result ≡ reading.inside (view.opened «open») (reading.in_number (view.head head) (reading.want (view.left left))) }
+{
+    State::Inside(open, Place::InNumber(head, Mode::Want(left)))
+}
+
 /// The name that letters are.
 fn name_of(alloc: Global, letters: &Letters) -> Result<Name, ParseFault>
     ensures name { IfOk result (λ name. (name ≡ letters.now) × IsName letters.now) }
     ensures refused { IsErrOf result ParseFault.NotScript → ¬ IsName letters.now }
+    ensures no_memory { IsErrOf result ParseFault.NoMemory → IsName letters.now }
 {
     match Name::read(alloc, letters.bytes()) {
         Ok(name) => Ok(name),
@@ -223,18 +238,8 @@ fn step_named(open: Open, name: Name, token: &Token) -> Result<State, ParseFault
     ensures { Gives view.state result (reading.step_named (view.opened «open») name token.now) }
 {
     match token {
-        Token::Sign(Sign::Equals) => {
-            Ok(State::Inside(
-                open,
-                Place::InNumber(Head::Assigns(name), Mode::Want(Left::Nothing)),
-            ))
-        }
-        Token::Key(Key::Pays) => {
-            Ok(State::Inside(
-                open,
-                Place::InNumber(Head::Pays(name), Mode::Want(Left::Nothing)),
-            ))
-        }
+        Token::Sign(Sign::Equals) => Ok(wanting(open, Head::Assigns(name), Left::Nothing)),
+        Token::Key(Key::Pays) => Ok(wanting(open, Head::Pays(name), Left::Nothing)),
         _ => Err(ParseFault::NotScript),
     }
 }
@@ -317,35 +322,39 @@ fn step_spot_opened(open: Open, head: Head, left: Left, token: &Token) -> Result
 }
 
 /// The place behind a token that stands behind a number: the number goes on, or its statement ends.
+///
+/// The token is looked at first: memory is taken only for one that can stand there.
 fn step_after(
     alloc: Global,
     open: Open,
     head: Head,
-    value: Expr,
+    left: Left,
+    atom: Expr,
     token: &Token,
 ) -> Result<State, ParseFault>
-    ensures { Gives view.state result (reading.step_after (view.opened «open») (view.head head) (tree_of.number value) token.now) }
+    ensures { Gives view.state result (reading.step_after (view.opened «open») (view.head head) (reading.joined (view.left left) (tree_of.number atom)) token.now) }
 {
     match token {
-        Token::Sign(Sign::Plus) => Ok(State::Inside(
-            open,
-            Place::InNumber(head, Mode::Want(Left::Plus(value))),
-        )),
-        Token::Sign(Sign::Minus) => Ok(State::Inside(
-            open,
-            Place::InNumber(head, Mode::Want(Left::Minus(value))),
-        )),
+        Token::Sign(Sign::Plus) => {
+            let value = joined(alloc, left, atom)?;
+            Ok(wanting(open, head, Left::Plus(value)))
+        }
+        Token::Sign(Sign::Minus) => {
+            let value = joined(alloc, left, atom)?;
+            Ok(wanting(open, head, Left::Minus(value)))
+        }
         Token::Sign(Sign::Semicolon) => {
-            let open = with_number(open, head, value)?;
+            let open = with_number(alloc, open, head, left, atom)?;
             Ok(State::Inside(open, Place::Free))
         }
         Token::Date(_) => {
-            let open = with_number(open, head, value)?;
+            let open = with_number(alloc, open, head, left, atom)?;
             step_free(alloc, open, token)
         }
-        Token::Word(_) => {
-            let open = with_number(open, head, value)?;
-            step_free(alloc, open, token)
+        Token::Word(letters) => {
+            let name = name_of(alloc, letters)?;
+            let open = with_number(alloc, open, head, left, atom)?;
+            Ok(State::Inside(open, Place::Named(name)))
         }
         _ => Err(ParseFault::NotScript),
     }
@@ -365,10 +374,7 @@ fn step_number(
         Mode::Want(left) => step_want(alloc, open, head, left, token),
         Mode::SpotNamed(left) => step_spot_named(open, head, left, token),
         Mode::SpotOpened(left) => step_spot_opened(open, head, left, token),
-        Mode::After(left, atom) => {
-            let value = joined(alloc, left, atom)?;
-            step_after(alloc, open, head, value, token)
-        }
+        Mode::After(left, atom) => step_after(alloc, open, head, left, atom, token),
     }
 }
 
@@ -398,10 +404,7 @@ fn finish_number(alloc: Global, open: Open, head: Head, mode: Mode) -> Result<Ve
     ensures { Gives view.items result (reading.finish_number (view.opened «open») (view.head head) (view.mode mode)) }
 {
     match mode {
-        Mode::After(left, atom) => {
-            let value = joined(alloc, left, atom)?;
-            closed(with_number(open, head, value)?)
-        }
+        Mode::After(left, atom) => closed(with_number(alloc, open, head, left, atom)?),
         _ => Err(ParseFault::NotScript),
     }
 }
@@ -428,9 +431,12 @@ fn finish(alloc: Global, state: State) -> Result<Vec<Item>, ParseFault>
 }
 
 /// The items of the script that the tokens are.
+///
+/// Where there is no memory at a token, those behind it aren't looked at, so one of them may be one that can't stand there.
 #[tactic(auto, unfolding(crate::specs::Reading::script_in))]
 fn read_items(alloc: Global, tokens: &[Token]) -> Result<Vec<Item>, ParseFault>
-    ensures { Gives view.items result (script_in tokens.now) }
+    ensures spelled { IfOk result (λ items. script_in tokens.now ≡ Some (view.items items)) }
+    ensures refused { IsErrOf result ParseFault.NotScript → script_in tokens.now ≡ None }
 {
     let mut state = State::Start;
     for token in tokens {
