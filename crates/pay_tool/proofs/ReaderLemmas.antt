@@ -20,10 +20,6 @@ abbrev pub after : {A : Type 0} → List A → Option (List A) → Option (List 
 after front None = None
 after front (Some others) = Some (front ++ others)
 
-pub after-nothing : {A : Type 0} (others : Option (List A)) → others ≡ after [] others
-after-nothing None = refl
-after-nothing (Some others) = refl
-
 pub after-more : {A : Type 0} (front : List A) (x : A) (others : Option (List A)) → after front (with_first (Some x) others) ≡ after (front ++ x ∷ []) others
 after-more front x None = refl
 after-more front x (Some others) = ap (λ xs. Some xs) (sym (append_assoc front (x ∷ []) others))

@@ -1,6 +1,6 @@
 //! The lexer: the bytes of a script are cut into tokens from the front, the longest token at each place.
 
-ghost use Rattle.std.specs.Prelude.{◌≡◌, ◌≤◌, ◌||◌, ◌∷◌, List, Option, Some, None, IfOk, IfSome, IsErrOf, IsSome, length, map, take};
+ghost use Rattle.std.specs.Prelude.{◌≡◌, ◌≤◌, ◌||◌, ◌∷◌, Option, Some, None, IfOk, IfSome, IsErrOf, IsSome, length, map};
 ghost use Rattle.std.specs.Option.{option_map};
 ghost use Rattle.pay_tree.specs.Names.{is_digit};
 ghost use Rattle.pay_tool.specs.Tokens.{is_blank, lower, sign_of, word_token};

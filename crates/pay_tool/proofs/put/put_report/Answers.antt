@@ -3,16 +3,17 @@ use Rattle.std.proofs.Common.{map}
 use Rattle.pay_tool.specs.Report.{header_line, last_line, report_rows}
 use Rattle.pay_tree.specs.Views.{event}
 use Rattle.pay_tool.specs.TableViews.{table}
-use Rattle.pay_tool.proofs.Pieces.{front_first, front_after, put_thrice}
+use Rattle.pay_edge.proofs.Pieces.{front_first, front_after}
+use Rattle.pay_tool.proofs.Pieces.{put_thrice}
 use Rattle.pay_tool.proofs.put.put_report.Goals as goal
 
 pub returns-in_err-put_piece-clause-front : goal.returns-in_err-put_piece-clause-front
-returns-in_err-put_piece-clause-front g c = front_first _ _ header_line _ c.put_piece.ensures.front
+returns-in_err-put_piece-clause-front g c = front_first header_line _ c.put_piece.ensures.front
 
 pub returns-in_err-put_rows-clause-front : goal.returns-in_err-put_rows-clause-front
 returns-in_err-put_rows-clause-front g c =
     let rows = rw (c.as_slice-dates.ensures.value, c.as_slice-rows.ensures.value) at c.put_rows.ensures.front in
-    front_after _ _ _ header_line _ c.in_ok-put_piece.ensures.ok (front_first _ _ (report_rows (map event c.args.events.now) (table c.args.scenarios.now)) last_line rows)
+    front_after _ header_line _ c.in_ok-put_piece.ensures.ok (front_first (report_rows (map event c.args.events.now) (table c.args.scenarios.now)) last_line rows)
 
 pub returns-clause-ok : goal.returns-clause-ok
 returns-clause-ok g c =
@@ -23,4 +24,4 @@ returns-clause-ok g c =
 pub returns-clause-front : goal.returns-clause-front
 returns-clause-front g c =
     let rows = rw (c.as_slice-dates.ensures.value, c.as_slice-rows.ensures.value) at c.in_ok-put_rows.ensures.ok in
-    front_after _ _ _ header_line _ c.in_ok-put_piece.ensures.ok (front_after _ _ _ (report_rows (map event c.args.events.now) (table c.args.scenarios.now)) last_line rows c.put_piece-2.ensures.front)
+    front_after _ header_line _ c.in_ok-put_piece.ensures.ok (front_after _ (report_rows (map event c.args.events.now) (table c.args.scenarios.now)) last_line rows c.put_piece-2.ensures.front)
