@@ -8,7 +8,8 @@ use Rattle.pay_dates.proofs.DayLemmas.{day_text-length, day_text-day_in}
 use Rattle.pay_tool.specs.declared.token.Token.{Token}
 use Rattle.pay_tool.specs.Lexer.{with_taken}
 use Rattle.pay_tool.specs.Lexing.{Front, point_and, number_rest, word_rest, is_word_byte, token_at, token_then, tokens_after}
-use Rattle.pay_tool.proofs.LexingLemmas.{front_while-back, front-take, number_rest-back, tokens_after-drop}
+use Rattle.pay_tool.proofs.FrontLemmas.{front_while-back, front-take, number_rest-back}
+use Rattle.pay_tool.proofs.LexingLemmas.{tokens_after-drop}
 
 -- a point stands only before digits
 pub point_none : (ds : List ℕ) → length ds ≡ 0 → length (point_and ds) ≡ 0

@@ -4,12 +4,15 @@ pub mod SortLemmas
 pub mod BodyLemmas
 pub mod ScriptComplete
 pub mod ScriptSound
+mod FrontLemmas
+mod TokenLemmas
 pub mod LexingLemmas
 pub mod LexerLemmas
 mod ByteLemmas
 mod PieceLemmas
 mod ReaderLemmas
-pub mod TableLemmas
+pub mod TableSound
+pub mod TableComplete
 pub mod Pieces
 pub mod Spelled
 pub mod Paid

@@ -12,7 +12,8 @@ use Rattle.std.specs.Option.{option_copied, is_some}
 use Rattle.pay_dates.specs.declared.day.Day.{Day}
 use Rattle.pay_tool.specs.Tables.{Row, are_distinct}
 use Rattle.pay_tool.specs.TableReading.{pieces, pieces_if, with_first, each_in, cell_in, full_if, columns_if, row_in, rows_in, rows_if, columns_in, table_of_rows, scenarios_in}
-use Rattle.pay_tool.proofs.TableLemmas.{pieces-first, pieces-some, rows_in-more}
+use Rattle.pay_tool.proofs.PieceLemmas.{pieces-first, pieces-some}
+use Rattle.pay_tool.proofs.TableComplete.{rows_in-more}
 use Rattle.pay_dates.proofs.DayLemmas.{day_text-day_in, day_text-length}
 
 -- these values and then the others, if those are not missing

@@ -6,14 +6,13 @@ use Rattle.std.specs.Prelude.{int_lt}
 use Rattle.std.specs.Ordering.{int_eq, int_cmp, is_lt, is_eq}
 use Rattle.std.specs.List.Sorted.{IsSortedByKey, IsStableByKey, ties}
 use Rattle.pay_meaning.specs.Language.{Event}
-use Rattle.pay_meaning.specs.Events.{number_of, events_at, in_order}
+use Rattle.pay_meaning.specs.Events.{number_of, event_of, events_at, in_order}
 use Rattle.pay_meaning.specs.Laws.{AreFrom, IsRising}
 use Rattle.pay_meaning.proofs.EventLaws.{order-unique, eq-cases, lt-cases}
 use Rattle.pay_tree.specs.declared.tree.Item.{Item}
 use Rattle.pay_tree.specs.declared.tree.Item.TheVariants.{Plain}
 use Rattle.pay_tree.specs.declared.tree.NamedEvent.{NamedEvent}
 use Rattle.pay_tree.specs.Views.{event, item}
-use Rattle.pay_meaning.specs.Events.{event_of}
 use Rattle.pay_tool.specs.EventOrder.{named, date_number}
 
 tie-by : (p q : Bool) → is_eq (cond q Less (cond p Greater Equal)) ≡ (not (is_lt (cond p Less (cond q Greater Equal))) && not (is_lt (cond q Less (cond p Greater Equal))))

@@ -1,4 +1,4 @@
-use Rattle.pay_tool.proofs.TableLemmas.{table-one}
+use Rattle.pay_tool.proofs.TableComplete.{table-one}
 use Rattle.pay_tool.proofs.table_laws.one_table.Goals as goal
 
 pub returns : goal.returns

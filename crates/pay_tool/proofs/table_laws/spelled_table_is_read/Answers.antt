@@ -1,4 +1,4 @@
-use Rattle.pay_tool.proofs.TableLemmas.{table-read}
+use Rattle.pay_tool.proofs.TableComplete.{table-read}
 use Rattle.pay_tool.proofs.table_laws.spelled_table_is_read.Goals as goal
 
 pub returns : goal.returns

@@ -1,4 +1,4 @@
-use Rattle.pay_tool.proofs.TableLemmas.{table-spelled}
+use Rattle.pay_tool.proofs.TableSound.{table-spelled}
 use Rattle.pay_tool.proofs.table_laws.table_is_spelled.Goals as goal
 
 pub returns : goal.returns

@@ -1,7 +1,7 @@
 use Rattle.std.proofs.Common.{arith}
 use Rattle.std.proofs.lemmas.Result.{err_from_is_err_and}
 use Rattle.pay_tool.proofs.ReaderLemmas.{scenarios-no_columns, scenarios-no_rows, scenarios-some, same_error}
-use Rattle.pay_tool.proofs.TableLemmas.{table_is_good}
+use Rattle.pay_tool.proofs.TableSound.{table_is_good}
 use Rattle.pay_tool.proofs.table_reader.read_scenarios.Goals as goal
 
 pub returns-in_err-dates-clause-refused : goal.returns-in_err-dates-clause-refused
