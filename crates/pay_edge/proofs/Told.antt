@@ -1,9 +1,9 @@
 -- Two calls of a depot put together, and facts on files moved from one state of it to another.
-use Rattle.std.proofs.Common.{◌≡◌, ℕ, ◌≤◌, List, refl, sym, subst, ◌∙◌, arith}
+use Rattle.std.proofs.Common.{◌≡◌, ℕ, List, refl, sym, subst, ◌∙◌}
 use Rattle.std.proofs.Math.Nat.{le_trans, le_refl}
 use Rattle.std.specs.Prelude.{IsSomeAnd, IfSome}
 use Rattle.std.specs.declared.option.Option.{Option}
-use Rattle.pay_edge.specs.Edge.{Files, OnlyRead, Rose, SameBut, SameOthers}
+use Rattle.pay_edge.specs.Edge.{Files, OnlyRead, SameBut}
 
 -- One depot was only read, twice.
 pub then_read : {D : Type 0} {told : D → Option Files} {reads : D → List ℕ → ℕ} {writes : D → ℕ} {a b c : D} → OnlyRead told reads writes a b → OnlyRead told reads writes b c
@@ -29,29 +29,9 @@ told_after P e h = subst (λ told. IfSome told P) (sym e) h
 pub there_before : (P : Files → Type 0) {old new : Option Files} → new ≡ old → IsSomeAnd new P → IsSomeAnd old P
 there_before P e h = subst (λ told. IsSomeAnd told P) e h
 
-pub there_after : (P : Files → Type 0) {old new : Option Files} → new ≡ old → IsSomeAnd old P → IsSomeAnd new P
-there_after P e h = subst (λ told. IsSomeAnd told P) (sym e) h
-
 -- A depot that is left alone was only read.
 pub read_none : {D : Type 0} (told : D → Option Files) (reads : D → List ℕ → ℕ) (writes : D → ℕ) (a : D) → OnlyRead told reads writes a a
 read_none told reads writes a = record { files = refl; write_faults = refl; later = λ name. le_refl (reads a name) }
 
 pub same_none : (name : List ℕ) (counts : List ℕ → ℕ) → SameBut name counts counts
 same_none name counts = record { others = λ other apart. refl }
-
--- Files but one stood, twice.
-pub then_others : {name : List ℕ} {a b c : Option Files} → SameOthers name a b → SameOthers name b c → SameOthers name a c
-then_others p q = record {
-  told = q.told ∙ p.told;
-  others = λ other apart. q.others other apart ∙ p.others other apart;
-}
-
-pub others_none : (name : List ℕ) (a : Option Files) → SameOthers name a a
-others_none name a = record { told = refl; others = λ other apart. refl }
-
--- A count that rose has risen since any earlier moment, and at any later one.
-pub rose_since : (a b c : ℕ) → a ≤ b → Rose b c → Rose a c
-rose_since a b c h rose = omega arith
-
-pub rose_until : (a b c : ℕ) → Rose a b → b ≤ c → Rose a c
-rose_until a b c rose h = omega arith

@@ -1,13 +1,12 @@
 -- What one fetch more says of the whole file.
-use Rattle.std.proofs.Common.{◌≡◌, ℕ, ◌+◌, ◌<◌, ◌≤◌, List, [], ◌++◌, refl, length, take, drop, ap, sym, subst, ◌∙◌, arith, length-append, length-take}
+use Rattle.std.proofs.Common.{◌≡◌, ℕ, ◌+◌, ◌≤◌, List, [], ◌++◌, refl, length, take, drop, ap, sym, subst, ◌∙◌, arith, length-append, length-take}
 use Rattle.std.proofs.Math.Seq.{take-append-add}
 use Rattle.std.proofs.lemmas.List.{take-append-drop}
 use Rattle.std.specs.Prelude.{IsSomeAnd, IfSome}
 use Rattle.std.specs.declared.option.Option.{Option}
 use Rattle.std.specs.declared.option.Option.TheVariants.{None, Some}
 use Rattle.std.specs.FinMap.{get}
-use Rattle.pay_edge.specs.Edge.{Files, Fetches, IsFrontOf, IsBegun, whole_from, whole_of}
-use Rattle.pay_edge.specs.Edge.Whole.{Missing, Long, Bytes}
+use Rattle.pay_edge.specs.Edge.{Files, Fetches, IsFrontOf, IsBegun}
 
 front_more-file : (file bytes buffer : List ℕ) (n : ℕ) → n ≤ length buffer → take (length bytes) file ≡ bytes → Fetches file (length bytes) n buffer
     → take (length (bytes ++ take n buffer)) file ≡ bytes ++ take n buffer
@@ -18,7 +17,7 @@ front_more-file file bytes buffer n fits front f =
     ap (λ k. take k file) size ∙ ap (take (length bytes + n)) (sym split) ∙ take-append-add bytes rest n ∙ ap (λ b. bytes ++ b) (sym f.bytes)
 
 -- What a file begins with, it begins with after a fetch too.
-pub front_more : (o : Option (List ℕ)) (bytes buffer : List ℕ) (n : ℕ) → n ≤ length buffer → IsFrontOf o bytes
+front_more : (o : Option (List ℕ)) (bytes buffer : List ℕ) (n : ℕ) → n ≤ length buffer → IsFrontOf o bytes
     → IsSomeAnd o (λ file. Fetches file (length bytes) n buffer) → IsFrontOf o (bytes ++ take n buffer)
 front_more None bytes buffer n fits front f = tt
 front_more (Some file) bytes buffer n fits front f = front_more-file file bytes buffer n fits front f
@@ -38,26 +37,3 @@ front_none (Some file) bytes e = rw e refl
 pub begun_none : (told : Option Files) (name bytes : List ℕ) → bytes ≡ [] → IfSome told (λ files. IsBegun files name bytes)
 begun_none None name bytes e = tt
 begun_none (Some files) name bytes e = front_none (get files name) bytes e
-
--- The three things that a file can be exclude each other, also where the files are only told of.
-pub missing_or_bytes : (told : Option Files) (name bytes : List ℕ) (limit : ℕ) → IsSomeAnd told (λ files. whole_of files name limit ≡ Missing)
-    → IfSome told (λ files. whole_of files name limit ≡ Bytes bytes) → ⊥
-missing_or_bytes None name bytes limit missing given = missing
-missing_or_bytes (Some files) name bytes limit missing given = cc
-
-pub missing_or_long : (told : Option Files) (name : List ℕ) (limit : ℕ) → IsSomeAnd told (λ files. whole_of files name limit ≡ Missing)
-    → IfSome told (λ files. whole_of files name limit ≡ Long) → ⊥
-missing_or_long None name limit missing long = missing
-missing_or_long (Some files) name limit missing long = cc
-
-pub long_or_bytes : (told : Option Files) (name bytes : List ℕ) (limit : ℕ) → IsSomeAnd told (λ files. whole_of files name limit ≡ Long)
-    → IfSome told (λ files. whole_of files name limit ≡ Bytes bytes) → ⊥
-long_or_bytes None name bytes limit long given = long
-long_or_bytes (Some files) name bytes limit long given = cc
-
--- A file within the limit is its bytes, and one beyond it is long.
-pub whole_within : (file : List ℕ) (limit : ℕ) → length file ≤ limit → whole_from (Some file) limit ≡ Bytes file
-whole_within file limit le = grind arith
-
-pub whole_beyond : (file : List ℕ) (limit : ℕ) → limit < length file → whole_from (Some file) limit ≡ Long
-whole_beyond file limit lt = grind arith
