@@ -69,7 +69,7 @@ pub data Whole : Type 0 where
   Long : Whole
   Bytes : List ℕ → Whole
 
--- the same of what stands under a name
+-- the same of what stands under a name, if anything does
 abbrev pub whole_from : Option (List ℕ) → ℕ → Whole
 whole_from None limit = Missing
 whole_from (Some file) limit = if nat_le (length file) limit then Bytes file else Long

@@ -1,6 +1,6 @@
 //! A depot in memory, which fails where it is asked to.
 
-ghost use Rattle.std.specs.Prelude.{◌≡◌, ◌⊎◌, ◌<◌, ◌≤◌, ◌∷◌, ℕ, ◌+◌, ◌-◌, min, length, drop, IfOk, OnOk, OnErr, IsErr, IsErrOf, IfSome, IsSomeAnd, IsTrue, IsFalse};
+ghost use Rattle.std.specs.Prelude.{◌≡◌, ◌⊎◌, ◌<◌, ◌≤◌, ◌∷◌, ◌+◌, ◌-◌, min, length, drop, IfOk, OnOk, OnErr, IsErr, IsErrOf, IfSome, IsSomeAnd, IsTrue, IsFalse};
 ghost use Rattle.std.specs.Option.{option_map};
 ghost use Rattle.std.specs.FinMap as map;
 ghost use Rattle.pay_edge.specs.Edge.{Rose, one_more, OnlyRead, SameBut, Fetches, IsAbsent, SameOthers, replaced};
@@ -178,10 +178,10 @@ impl Depot for MemoryDepot {
         ensures bytes { IfOk result (λ n. IfSome (memory_told self.old) (λ all.
             IsSomeAnd (map.get all name.now) (λ file. Fetches file at n into.new))) }
         ensures failed { IsErrOf result FetchFault.Failed → Rose (memory_read_faults self.old name.now) (memory_read_faults self.new name.now) }
-        ensures absent { IsErrOf result FetchFault.Absent → IsAbsent (memory_told self.old) name.now }
         ensures absent_counts { IsErrOf result FetchFault.Absent → memory_read_faults self.new name.now ≡ memory_read_faults self.old name.now }
-        ensures not_there { IsAbsent (memory_told self.old) name.now → IsErr result }
         ensures memory_counts { IsErrOf result FetchFault.NoMemory → memory_read_faults self.new name.now ≡ memory_read_faults self.old name.now }
+        ensures absent { IsErrOf result FetchFault.Absent → IsAbsent (memory_told self.old) name.now }
+        ensures not_there { IsAbsent (memory_told self.old) name.now → IsErr result }
 
         // It fails exactly where its number was given, or there is then no memory to note the failure.
         ensures chosen { IsTrue (fails_fetch self.old) → IsErrOf result FetchFault.Failed ⊎ IsErrOf result FetchFault.NoMemory }
@@ -223,9 +223,9 @@ impl Depot for MemoryDepot {
         ensures fetches { memory_fetches self.new ≡ memory_fetches self.old }
         ensures other_files { SameOthers name.now (memory_told self.old) (memory_told self.new) }
         ensures ok { OnOk result (memory_told self.new ≡ replaced (memory_told self.old) name.now bytes.now) }
+        ensures memory_files { IsErrOf result ReplaceFault.NoMemory → memory_told self.new ≡ memory_told self.old }
         ensures never_falls { memory_write_faults self.old ≤ memory_write_faults self.new }
         ensures failed { IsErrOf result ReplaceFault.Failed → Rose (memory_write_faults self.old) (memory_write_faults self.new) }
-        ensures memory_files { IsErrOf result ReplaceFault.NoMemory → memory_told self.new ≡ memory_told self.old }
         ensures memory_counts { IsErrOf result ReplaceFault.NoMemory → memory_write_faults self.new ≡ memory_write_faults self.old }
 
         // It fails exactly where its number was given.
@@ -255,28 +255,27 @@ impl Depot for MemoryDepot {
 #[cfg(test)]
 mod tests {
     use super::*;
-    use crate::memory_sink::MemorySink;
-    use crate::sink::{Failed, Sink};
     use crate::whole::{WholeFault, read_whole};
     use std::test::Fail;
 
-    // The bytes of the file, which are read in three fetches: 65,536 bytes, 4,464 bytes and none.
+    // The bytes of the file `a`, which are read in three fetches: 65,536 bytes, 4,464 bytes and none.
     const SIZE: usize = 70_000;
 
+    // The name, the limit, the fetch that fails, and the fault.
+    const WHOLES: [(&str, u64, u64, Option<WholeFault>); 6] = [
+        ("a", 70_000, 4, None),
+        ("a", 69_999, 4, Some(WholeFault::TooLong)),
+        ("a", 70_000, 1, Some(WholeFault::Failed)),
+        ("a", 70_000, 2, Some(WholeFault::Failed)),
+        ("a", 70_000, 3, Some(WholeFault::Failed)),
+        ("b", 70_000, 4, Some(WholeFault::Absent)),
+    ];
+
     #[test]
-    fn what_a_whole_file_and_a_put_answer(rt: HostRuntime) -> Result<(), Fail> {
+    fn a_file_is_read_whole_or_refused(rt: HostRuntime) -> Result<(), Fail> {
         let alloc = rt.alloc();
         let file = vec![in alloc; 7u8; SIZE]?;
-        // The name, the limit, the fetch that fails, and the fault.
-        let cases = [
-            ("a", 70_000, 4, None),
-            ("a", 69_999, 4, Some(WholeFault::TooLong)),
-            ("a", 70_000, 1, Some(WholeFault::Failed)),
-            ("a", 70_000, 2, Some(WholeFault::Failed)),
-            ("a", 70_000, 3, Some(WholeFault::Failed)),
-            ("b", 70_000, 4, Some(WholeFault::Absent)),
-        ];
-        for (name, limit, failing, fault) in cases {
+        for (name, limit, failing, fault) in WHOLES {
             assert!(rt; limit <= 70_000);
             let mut depot = MemoryDepot::new(alloc);
             depot.add("a", &file)?;
@@ -286,19 +285,18 @@ mod tests {
                 Err(other) => assert!(rt; fault == Some(other)),
             }
         }
+        Ok(())
+    }
 
-        let mut depot = MemoryDepot::new(alloc);
+    #[test]
+    fn a_replace_fails_where_that_was_asked_for(rt: HostRuntime) -> Result<(), Fail> {
+        let mut depot = MemoryDepot::new(rt.alloc());
         depot.fail_replace(2)?;
         assert!(rt; depot.replace("a", b"one").is_ok());
         assert!(rt; depot.replace("a", b"two") == Err(ReplaceFault::Failed));
         assert!(rt; depot.bytes_of("a") == Some(b"one".as_slice()));
-
-        let mut sink = MemorySink::new(alloc, 3)?;
-        sink.fail_put(2)?;
-        assert!(rt; sink.put(b"four") == Err(Failed));
-        assert!(rt; sink.put(b"123") == Err(Failed));
-        assert!(rt; sink.put(b"123") == Ok(()));
-        assert!(rt; sink.text() == b"123".as_slice());
+        assert!(rt; depot.replace("a", b"three").is_ok());
+        assert!(rt; depot.bytes_of("a") == Some(b"three".as_slice()));
         Ok(())
     }
 }

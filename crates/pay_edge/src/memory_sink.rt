@@ -125,3 +125,22 @@ impl Sink for MemorySink {
         }
     }
 }
+
+#[cfg(test)]
+mod tests {
+    use super::*;
+    use std::test::Fail;
+
+    #[test]
+    fn a_put_fails_where_that_was_asked_for_or_the_room_is_short(
+        rt: HostRuntime,
+    ) -> Result<(), Fail> {
+        let mut sink = MemorySink::new(rt.alloc(), 3)?;
+        sink.fail_put(2)?;
+        assert!(rt; sink.put(b"four") == Err(Failed));
+        assert!(rt; sink.put(b"123") == Err(Failed));
+        assert!(rt; sink.put(b"123") == Ok(()));
+        assert!(rt; sink.text() == b"123".as_slice());
+        Ok(())
+    }
+}
