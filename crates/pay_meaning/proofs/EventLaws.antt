@@ -42,7 +42,7 @@ placed-rising e (f ∷ r) h = elim (lt-cases (number_of f) (number_of e)) [
   | inr miss ↦ rw miss.0 ((miss.1, from-weaker (number_of e) (number_of f) miss.1 r h.0), h)
 ]
 
-pub in_order-rising : (es : List Event) → IsRising (in_order es)
+in_order-rising : (es : List Event) → IsRising (in_order es)
 in_order-rising [] = tt
 in_order-rising (e ∷ es) = placed-rising e (in_order es) (in_order-rising es)
 
@@ -69,7 +69,7 @@ placed-same n e (f ∷ r) = elim (lt-cases (number_of f) (number_of e)) [
   | inr miss ↦ rw miss.0 refl
 ]
 
-pub in_order-same : (n : ℤ) (es : List Event) → events_at n (in_order es) ≡ events_at n es
+in_order-same : (n : ℤ) (es : List Event) → events_at n (in_order es) ≡ events_at n es
 in_order-same n [] = refl
 in_order-same n (e ∷ es) = placed-same n e (in_order es) ∙ ap (λ xs. cond (int_eq (number_of e) n) (e ∷ xs) xs) (in_order-same n es)
 
@@ -111,7 +111,7 @@ heads-same x y xs ys h k same =
     let joined : x ∷ events_at (number_of x) xs ≡ y ∷ events_at (number_of x) ys = sym own-x ∙ at-x ∙ other in
     cc
 
-pub rising-same : (xs ys : List Event) → IsRising xs → IsRising ys → ((n : ℤ) → events_at n xs ≡ events_at n ys) → xs ≡ ys
+rising-same : (xs ys : List Event) → IsRising xs → IsRising ys → ((n : ℤ) → events_at n xs ≡ events_at n ys) → xs ≡ ys
 rising-same [] [] h k same = refl
 rising-same [] (y ∷ ys) h k same = absurd (omega (arith, ap length (same (number_of y)), ap length (at-own (number_of y) y ys refl)))
 rising-same (x ∷ xs) [] h k same = absurd (omega (arith, ap length (same (number_of x)), ap length (at-own (number_of x) x xs refl)))
@@ -151,7 +151,7 @@ shared-first e f r h same = record {
   earliest = λ n two. first-from n e (f ∷ r) h (omega arith);
 }
 
-pub shared-found : (es : List Event) (date : Day) → IsRising es → shared_date es ≡ Some date → IsEarliestShared es date
+shared-found : (es : List Event) (date : Day) → IsRising es → shared_date es ≡ Some date → IsEarliestShared es date
 shared-found [] date h e = cc
 shared-found (x ∷ []) date h e = cc
 shared-found (x ∷ y ∷ r) date h e = elim (eq-cases (number_of x) (number_of y)) [
@@ -166,7 +166,7 @@ shared-found (x ∷ y ∷ r) date h e = elim (eq-cases (number_of x) (number_of 
       }
 ]
 
-pub shared-none : (es : List Event) → IsRising es → shared_date es ≡ None → (n : ℤ) → ¬ IsShared n es
+shared-none : (es : List Event) → IsRising es → shared_date es ≡ None → (n : ℤ) → ¬ IsShared n es
 shared-none [] h e n two = absurd (omega arith)
 shared-none (x ∷ []) h e n two = elim (eq-cases (number_of x) n) [
   | inl hit ↦ let q = rw hit.0 at two in absurd (omega arith)

@@ -1,6 +1,6 @@
 //! Names of variables and of legs: which bytes are one, and their order.
 
-ghost use Rattle.std.specs.Prelude.{◌≡◌, ◌≤◌, ◌||◌, IfOk, OnOk, IsErrOf, length, drop, List, ℕ};
+ghost use Rattle.std.specs.Prelude.{◌≡◌, ◌||◌, IfOk, OnOk, IsErrOf, drop, List, ℕ};
 ghost use Rattle.std.specs.List.{list_all, list_any};
 ghost use Rattle.std.specs.Str.{bytes_eq};
 ghost use Rattle.pay_tree.specs.Names.{IsName, is_letter, is_digit, is_lower_word, is_keyword, is_name, keywords};
@@ -10,7 +10,8 @@ use std::alloc::Global;
 use std::cmp::Ordering;
 use std::marker::Model;
 
-/// A name of a variable or of a leg: 1 to 64 bytes, a lower-case letter or `_`, then such letters and digits, and no keyword of the language.
+/// A name of a variable or of a leg: 1 to 64 bytes, a lower-case letter or `_`, then such letters and digits, and no
+/// keyword of the language.
 ///
 /// In a clause a name is the list of its bytes. Names are ordered by their bytes, as texts are.
 #[derive(Drop)]
@@ -147,8 +148,8 @@ impl Name {
     ///
     /// # Errors
     ///
-    /// `NotName` exactly where the bytes are no name: there are none or more than 64, some byte may not stand where it does, or they are a keyword.
-    /// `NoMemory` where they are a name and there was no memory for the copy.
+    /// `NotName` exactly where the bytes are no name: there are none or more than 64, some byte may not stand where it
+    /// does, or they are a keyword. `NoMemory` where they are a name and there was no memory for the copy.
     pub fn read(alloc: Global, bytes: &[u8]) -> Result<Name, NameFault>
         ensures read { IfOk result (λ name. name ≡ bytes.now) }
         ensures name { OnOk result (IsName bytes.now) }
