@@ -1,20 +1,19 @@
 -- Lemmas on the texts and numbers of days, for the crates above too.
 use Rattle.std.proofs.Common.{◌≡◌, ℕ, ◌+◌, ◌-◌, ◌*◌, ◌/◌, ◌%◌, ◌<◌, ◌≤◌, ℤ, pos, negsuc, neg_ℤ, ◌+ℤ◌, ◌≤ℤ◌, Bool, true, false, List, [], ◌∷◌, length, slice_index, Option, Some, None, refl, sym, ap, ◌∙◌, arith, ◌&&◌, drop, inl, inr, eqb-true}
-use Rattle.std.specs.Prelude.{IsTrue, IsSome, IfSome, ◌↔◌}
-use Rattle.std.proofs.lemmas.Bool.{cases_Bool, false≢true}
+use Rattle.std.specs.Prelude.{IsSome, IfSome, ◌↔◌}
+use Rattle.std.proofs.lemmas.Bool.{cases_Bool, false≢true, and_parts}
 use Rattle.std.proofs.lemmas.Option.{same_Some}
-use Rattle.std.proofs.lemmas.Bool.Decides.{nat_tests, Decides-int_eq}
+use Rattle.std.proofs.lemmas.Bool.Decides.{nat_tests}
 use Rattle.jiff_core.proofs.SignedLemmas.{signed_arith}
 use Rattle.jiff_core.specs.Calendar.{IsCivilDate, day_count, days_from_civil}
 use Rattle.jiff_core.proofs.CalendarLemmas.{days_in_month_bounds, day_count-epoch, days_from_civil-day_count, day_count-lt_year, day_count-later_year, day_count-day_of_year}
 use Rattle.jiff_core.proofs.MarchLemmas.{day_count-early}
 use Rattle.std.proofs.lemmas.Int.{by_lt_z}
-use Rattle.std.specs.Ordering.{int_eq}
 use Rattle.jiff.proofs.Family.{same_date, epoch_day_same, epoch_day-lt, days_from_civil-day, days_from_civil-next_month, days_from_civil-next_year}
 use Rattle.pay_dates.specs.Days.{Date, IsDay, IsNumberOfRange, day_text, day_number, day_in, day_of, day_if, is_day_of, IsDayOf, has_form, two_at, year_at, IsYearOfRange, IsDayByte}
-use Rattle.std.specs.List.{All, Contains, AllByRecursion as ByRecursion}
-use Rattle.std.proofs.lemmas.List.Elements.{All-same, All-from_recursion, All-contains}
-use Rattle.pay_dates.specs.Parts.{is_digit, both_true, in_range}
+use Rattle.std.specs.List.{All, AllByRecursion as ByRecursion}
+use Rattle.std.proofs.lemmas.List.Elements.{All-same, All-from_recursion}
+use Rattle.pay_dates.specs.Parts.{is_digit, in_range}
 use Rattle.std.proofs.Math.Seq.{drop-cons, drop-length}
 use Rattle.pay_dates.specs.Laws.{TextHasTenBytes, TextReadsBack, ReadingIsText, NumberNamesDay, EarlierIsSmaller, EpochIsZero, IsNextOfMonth, BeginsNextMonth, BeginsNextYear, NextIsOneMore}
 use Rattle.pay_dates.proofs.PartsLemmas.{is_day_of-true, IsDayOf-test, is_day_of-parts, year_low, year_high}
@@ -26,17 +25,6 @@ same_day a b e = same_date a b e
 -- dates with the same parts are one date
 pub same_parts : (a b : Date) → a.year ≡ b.year → a.month ≡ b.month → a.day ≡ b.day → a ≡ b
 same_parts a b y m d = same_date a b (epoch_day_same a b y m d)
-
--- the test by which days compare as equal, and what it says
-pub same_day_test : (a b : Date) → int_eq (day_number a) (day_number b) ≡ true → a ≡ b
-same_day_test a b h = same_day a b ((Decides-int_eq (day_number a) (day_number b)).0 h)
-
-pub day_test-same : (a : Date) → int_eq (day_number a) (day_number a) ≡ true
-day_test-same a = (Decides-int_eq (day_number a) (day_number a)).1 refl
-
--- what a call that compares two days by `==` answers
-pub day_equality : (a b : Date) (r : Bool) → r ≡ int_eq (day_number a) (day_number b) → IsTrue r ↔ (a ≡ b)
-day_equality a b r e = (λ t. same_day_test a b (sym e ∙ t), λ same. e ∙ rw (← same) (day_test-same a))
 
 -- the numbers of the range: 1900-01-01 to 2199-12-31
 pub day_number-range : (d : Date) → IsDay d → IsNumberOfRange (day_number d)
@@ -192,7 +180,7 @@ day_in-day_text d h =
 -- two digits and the number that they write
 two_back : (a b : ℕ) → (is_digit a && is_digit b) ≡ true → (48 + (10 * (a - 48) + (b - 48)) / 10 ≡ a) × (48 + (10 * (a - 48) + (b - 48)) % 10 ≡ b) × (10 * (a - 48) + (b - 48) < 100)
 two_back a b h =
-    let p = both_true _ _ h in
+    let p = and_parts _ _ h in
     let x = in_range 48 57 a p.0 in
     let y = in_range 48 57 b p.1 in
     (omega (arith, x, y), omega (arith, x, y), omega (arith, x, y))
@@ -221,12 +209,12 @@ ten_elements xs h =
 -- the text that its own numbers spell is the text
 pub spelled-form : (xs : List ℕ) → has_form xs ≡ true → spelled (year_at xs) (two_at 5 xs) (two_at 8 xs) ≡ xs
 spelled-form xs h =
-    let p8 = both_true _ _ h in
-    let p7 = both_true _ _ p8.0 in
-    let p5 = both_true _ _ p7.0 in
-    let p4 = both_true _ _ p5.0 in
-    let p2 = both_true _ _ p4.0 in
-    let p0 = both_true _ _ p2.0 in
+    let p8 = and_parts _ _ h in
+    let p7 = and_parts _ _ p8.0 in
+    let p5 = and_parts _ _ p7.0 in
+    let p4 = and_parts _ _ p5.0 in
+    let p2 = and_parts _ _ p4.0 in
+    let p0 = and_parts _ _ p2.0 in
     let ten : length xs ≡ 10 = eqb-true (length xs) 10 p0.0 in
     let a = two_back (slice_index xs 0) (slice_index xs 1) p0.1 in
     let b = two_back (slice_index xs 2) (slice_index xs 3) p2.1 in
@@ -251,15 +239,6 @@ day_text-day_in xs d e =
           (rw found.1 year, day_text-spelled d (year_at xs) found.1 ∙ rw (found.2, found.3) (spelled-form xs form))
     ]
 
--- what does not read as a day is no day's text
-pub day_in-none : (xs : List ℕ) → day_in xs ≡ None → (d : Date) → IsDay d → day_text d ≡ xs → ⊥
-day_in-none xs none d h e = let found = ap day_in (sym e) ∙ day_in-day_text d h in cc
-
--- two days with one text are one day
-pub day_text-injective : (a b : Date) → IsDay a → IsDay b → day_text a ≡ day_text b → a ≡ b
-day_text-injective a b h k e =
-    same_Some a b (sym (day_in-day_text a h) ∙ (ap day_in e ∙ day_in-day_text b k))
-
 -- each byte of the text is a digit or a `-`
 bytes-spelled : (y m d : ℕ) → y < 10_000 → m < 100 → d < 100 → ByRecursion IsDayByte (spelled y m d)
 bytes-spelled y m d a b c =
@@ -271,10 +250,3 @@ day_text-bytes d h =
     let small = two_digits d in
     All-same IsDayByte (day_text d) (spelled y.0 d.month d.day) (day_text-spelled d y.0 y.1.0)
     (All-from_recursion IsDayByte (spelled y.0 d.month d.day) (bytes-spelled y.0 d.month d.day (omega (arith, y.1.2)) small.0 small.1))
-
--- so it has no byte below `-`: no blank, no tab, no end of line, no quote, no comma
-pub day_text-lacks : (d : Date) (b : ℕ) → IsDay d → b < 45 → Contains (day_text d) b → ⊥
-day_text-lacks d b h low has = elim (All-contains IsDayByte _ b (day_text-bytes d h) has) [
-  | inl dash ↦ omega arith
-  | inr digit ↦ omega arith
-]

@@ -1,10 +1,10 @@
 -- The numbers of a day, and where they stand in its text.
-use Rattle.std.specs.Prelude.{◌≡◌, ℕ, ◌+◌, ◌-◌, ◌*◌, ◌≤◌, Bool, true, false, ◌&&◌, ◌==◌, List, length, slice_index, ℤ, pos, ◌≤ℤ◌, refl}
+use Rattle.std.specs.Prelude.{◌≡◌, ℕ, ◌+◌, ◌-◌, ◌*◌, ◌≤◌, Bool, true, ◌&&◌, ◌==◌, List, length, slice_index, ℤ, pos, ◌≤ℤ◌}
 use Rattle.std.specs.Int.{is_in_range, IsInRange}
 use Rattle.std.specs.Int.Signed.{le_z_yes}
 use Rattle.std.proofs.Math.Dec.{le→leb, lit≤}
 use Rattle.std.proofs.Math.Nat.{le_trans}
-use Rattle.std.proofs.lemmas.Bool.{false≢true, leb-true}
+use Rattle.std.proofs.lemmas.Bool.{and_parts, leb-true}
 use Rattle.jiff_core.specs.Calendar.{IsYear, IsDate, days_in_month}
 
 -- a year from 1900 to 2199
@@ -20,31 +20,26 @@ abbrev pub is_day_of : ℕ → ℕ → ℕ → Bool
 is_day_of y m d =
     is_in_range 1900 2199 y && (is_in_range 1 12 m && is_in_range 1 (days_in_month (pos y) m) d)
 
--- both tests passed
-pub both_true : (a b : Bool) → (a && b) ≡ true → (a ≡ true) × (b ≡ true)
-both_true true b e = (refl, e)
-both_true false b e = absurd (false≢true e)
-
 -- the test of a range, as a fact
 pub in_range : (low high n : ℕ) → is_in_range low high n ≡ true → IsInRange low high n
 in_range low high n e =
-    let p = both_true _ _ e in
+    let p = and_parts _ _ e in
     (leb-true low n p.0, leb-true n high p.1)
 
 -- a year from 1900 to 2199 is one that the calendar has
 pub year_in : (y m d : ℕ) → is_day_of y m d ≡ true → IsYear (pos y)
 year_in y m d e =
-    let year = in_range 1900 2199 y (both_true _ _ e).0 in
+    let year = in_range 1900 2199 y (and_parts _ _ e).0 in
     let small : y ≤ 9999 = le_trans year.1 (lit≤ tt) in
     (le_z_yes tt, le_z_yes (le→leb y 9999 small))
 
 -- a month that passed the test is one of twelve
 pub month_in : (y m d : ℕ) → is_day_of y m d ≡ true → IsInRange 1 12 m
-month_in y m d e = in_range 1 12 m (both_true _ _ (both_true _ _ e).1).0
+month_in y m d e = in_range 1 12 m (and_parts _ _ (and_parts _ _ e).1).0
 
 -- a day that passed the test is one that its month has
 pub day_in_month : (y m d : ℕ) → is_day_of y m d ≡ true → IsInRange 1 (days_in_month (pos y) m) d
-day_in_month y m d e = in_range 1 (days_in_month (pos y) m) d (both_true _ _ (both_true _ _ e).1).1
+day_in_month y m d e = in_range 1 (days_in_month (pos y) m) d (and_parts _ _ (and_parts _ _ e).1).1
 
 -- the byte is a decimal digit
 abbrev pub is_digit : ℕ → Bool

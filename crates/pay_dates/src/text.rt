@@ -1,7 +1,7 @@
 //! The text of a day, `YYYY-MM-DD`: read and written.
 
-ghost use Rattle.std.specs.Prelude.{◌≡◌, ◌++◌, ◌+◌, ◌*◌, ◌-◌, ◌/◌, ◌%◌, ◌<◌, ◌≤◌, OnOk, OnErr, IsTrue, length, slice_index, vec_len, vec_capacity};
-ghost use Rattle.pay_dates.specs.Days.{IsDay, day_in, day_text, has_form, two_at, year_at};
+ghost use Rattle.std.specs.Prelude.{◌≡◌, ◌++◌, ◌+◌, ◌<◌, ◌≤◌, OnOk, OnErr, IsTrue, vec_len, vec_capacity};
+ghost use Rattle.pay_dates.specs.Days.{IsDay, day_in, day_text, has_form, two_at};
 ghost use Rattle.pay_dates.specs.Parts.{is_digit, has_two_digits};
 
 use crate::Day;

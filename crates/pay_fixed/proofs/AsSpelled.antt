@@ -8,7 +8,8 @@ use Rattle.pay_fixed.specs.Grammar.{Decimal, SpellsDecimal, raw_of}
 use Rattle.pay_fixed.specs.Reading.{Reading, after_blanks, signed_at, is_whole}
 use Rattle.pay_fixed.specs.Decimal.{judged, decimal_in}
 use Rattle.pay_fixed.specs.Laws.{DecimalIsSpelled}
-use Rattle.pay_fixed.proofs.Spelled.{read-spells, spelled-read}
+use Rattle.pay_fixed.proofs.Spelled.{read-spells}
+use Rattle.pay_fixed.proofs.SpelledRead.{spelled-read}
 
 -- a number within the limit is itself
 pub limited-within : {E : Type 0} (e : E) (z : ℤ) → IsRaw z → limited e z ≡ Ok z

@@ -1,10 +1,11 @@
 -- Values that are known exactly only below a bound.
 use Rattle.std.proofs.Common.{◌≡◌, ℕ, zero, suc, ◌+◌, ◌-◌, ◌*◌, ◌^◌, ◌≤◌, ◌⊎◌, inl, inr, min, List, [], ◌∷◌, ◌++◌, length, take, refl, ◌∙◌, arith, add-one, length-append}
+use Rattle.std.proofs.lemmas.Bool.{cases_lt}
 use Rattle.std.proofs.Math.Nat.{pow-suc, mul-le-mul_left, one-le-pow}
 use Rattle.pay_fixed.specs.Grammar.{number_on, number}
 use Rattle.std.proofs.lemmas.List.{take_min, length-take}
 use Rattle.pay_fixed.specs.Parts.{beyond, leading}
-use Rattle.pay_fixed.proofs.Digits.{le-or-lt, number_on-append}
+use Rattle.pay_fixed.proofs.Digits.{number_on-append}
 
 ten-more : (n m d : ℕ) → min n beyond ≡ min m beyond → min (10 * n + d) beyond ≡ min (10 * m + d) beyond
 ten-more n m d h = omega arith
@@ -18,9 +19,9 @@ min-min : (n : ℕ) → min (min n beyond) beyond ≡ min n beyond
 min-min n = omega arith
 
 cases-min : (n m : ℕ) → min n beyond ≡ min m beyond → (n ≡ m) ⊎ ((beyond ≤ n) × (beyond ≤ m))
-cases-min n m h = elim (le-or-lt beyond n) [
-  | inl big ↦ inr (big, omega arith)
-  | inr small ↦ inl (omega arith)
+cases-min n m h = elim (cases_lt n beyond) [
+  | inr big ↦ inr (big, omega arith)
+  | inl small ↦ inl (omega arith)
 ]
 
 -- one digit in a loop

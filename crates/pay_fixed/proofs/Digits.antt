@@ -1,5 +1,5 @@
 -- Digits and blanks at the front of a text.
-use Rattle.std.proofs.Common.{◌≡◌, ℕ, zero, suc, ◌+◌, ◌-◌, ◌*◌, ◌^◌, ◌<◌, ◌≤◌, ◌==◌, true, false, ◌⊎◌, inl, inr, List, [], ◌∷◌, ◌++◌, length, drop, refl, arith, leb, leb-true, leb-false}
+use Rattle.std.proofs.Common.{◌≡◌, ℕ, zero, suc, ◌+◌, ◌-◌, ◌*◌, ◌^◌, ◌<◌, ◌≤◌, ◌==◌, true, false, inl, inr, List, [], ◌∷◌, ◌++◌, length, drop, refl, arith}
 use Rattle.std.proofs.lemmas.Bool.{cases_Bool}
 use Rattle.std.proofs.lemmas.Bool.Decides.{nat_tests}
 use Rattle.std.proofs.Math.Nat.{pow-suc, mul-le-mul_right, pow-le-pow_right}
@@ -8,13 +8,6 @@ use Rattle.pay_fixed.specs.Reading.{is_blank, is_digit, after_blanks, all_blank,
 
 some-left : (n : ℕ) → (suc n == 0) ≡ false
 some-left n = grind (arith, nat_tests)
-
--- one of two numbers is at most the other, or greater
-pub le-or-lt : (a b : ℕ) → (a ≤ b) ⊎ (b < a)
-le-or-lt a b = elim (cases_Bool (leb a b)) [
-  | inl hit ↦ inl (leb-true a b hit)
-  | inr miss ↦ inr (leb-false a b miss)
-]
 
 -- a text is blank where nothing is left after its blanks
 pub no_more_blanks : (t : List ℕ) → (length (after_blanks t) == 0) ≡ all_blank t

@@ -2,6 +2,7 @@ pub mod Capped
 pub mod Digits
 pub mod Value
 pub mod Spelled
+pub mod SpelledRead
 pub mod Rounding
 pub mod AsSpelled
 pub mod Text

@@ -25,7 +25,7 @@ near-same a b q h k = omega (arith, ints)
 near-other : (a b q : ℕ) → 2 * b * q ≤ 2 * a + b → 2 * a + b < 2 * b * q + 2 * b → 2 * unsigned_abs (neg_ℤ (pos a) -ℤ neg_ℤ (pos (q * b))) ≤ b
 near-other a b q h k = omega (arith, ints)
 
-neg-times-pos : (q b : ℕ) → neg_ℤ (pos q) *ℤ pos b ≡ neg_ℤ (pos (q * b))
+pub neg-times-pos : (q b : ℕ) → neg_ℤ (pos q) *ℤ pos b ≡ neg_ℤ (pos (q * b))
 neg-times-pos zero b = omega (arith, ints)
 neg-times-pos (suc q) b = refl
 

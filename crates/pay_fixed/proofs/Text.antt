@@ -15,9 +15,10 @@ use Rattle.pay_fixed.specs.Grammar.{Decimal, AreDigits, number_on, number, signe
 use Rattle.pay_fixed.specs.Decimal.{four_digits, keep, without_zeros, sign_text, point_text, decimal_of, decimal_text}
 use Rattle.pay_fixed.specs.Laws.{DecimalReadsBack, DecimalIsShortest}
 use Rattle.pay_fixed.proofs.Digits.{number_on-append, number_on-is}
-use Rattle.pay_fixed.proofs.Spelled.{spelled-read}
+use Rattle.pay_fixed.proofs.Rounding.{neg-times-pos}
+use Rattle.pay_fixed.proofs.SpelledRead.{spelled-read}
 use Rattle.pay_fixed.proofs.AsSpelled.{limited-within}
-use Rattle.pay_fixed.proofs.Value.{neg-times, round-neg, ten-pos, unsigned_abs-signed}
+use Rattle.pay_fixed.proofs.Value.{round-neg, ten-pos, unsigned_abs-signed}
 
 own : IsNumeralModel AreDigits number
 own = numerals_by_fold AreDigits (search rules) number_on (search rules)
@@ -70,7 +71,7 @@ sign-back (negsuc n) = refl
 
 signed-exact : (b : Bool) (n m u q : ℕ) → n * 10_000 * u ≡ m * q → (signed b n *ℤ scale) *ℤ pos u ≡ signed b m *ℤ pos q
 signed-exact false n m u q h = ap pos h
-signed-exact true n m u q h = rw (neg-times n 10_000, neg-times (n * 10_000) u, neg-times m q, h) refl
+signed-exact true n m u q h = rw (neg-times-pos n 10_000, neg-times-pos (n * 10_000) u, neg-times-pos m q, h) refl
 
 -- the whole part and the decimals of a magnitude, with the digits of the decimals that are kept
 joined : (w r f l : ℕ) → l ≤ 4 → f * 10 ^ (4 - l) ≡ r → (w * 10 ^ l + f) * 10_000 * 10 ^ 0 ≡ (w * 10_000 + r) * 10 ^ (l + 0)

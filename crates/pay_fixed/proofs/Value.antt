@@ -1,6 +1,7 @@
 -- The digits that are read first say what the raw is.
 use Rattle.std.proofs.Common.{◌≡◌, ℕ, zero, suc, ◌+◌, ◌-◌, ◌*◌, ◌/◌, ◌^◌, ◌<◌, ◌≤◌, min, inl, inr, Bool, true, false, List, ◌++◌, length, take, drop, ℤ, pos, negsuc, neg_ℤ, ◌*ℤ◌, unsigned_abs, refl, sym, ◌∙◌, ap, arith, length-append, length-drop, add-one-le}
 use Rattle.std.specs.Prelude.{nat_le, Result, Err}
+use Rattle.std.proofs.lemmas.Bool.{cases_lt}
 use Rattle.std.proofs.lemmas.Bool.Decides.{nat_tests}
 use Rattle.std.proofs.lemmas.Int.{ints}
 use Rattle.std.proofs.lemmas.List.{take-append-drop, take_all}
@@ -9,7 +10,8 @@ use Rattle.std.proofs.Math.Nat.{mul-div-mul_right, mul-le-mul_right, div-mul-le_
 use Rattle.pay_fixed.specs.Round.{scale, limit, nearest, round, limited}
 use Rattle.pay_fixed.specs.Grammar.{Decimal, AreDigits, number, signed, tens_up, tens_down, raw_of}
 use Rattle.pay_fixed.specs.Parts.{beyond, leading, shifted_length}
-use Rattle.pay_fixed.proofs.Digits.{number_on-append, number_on-is, number-below, AreDigits-drop, AreDigits-append, le-or-lt}
+use Rattle.pay_fixed.proofs.Rounding.{neg-times-pos}
+use Rattle.pay_fixed.proofs.Digits.{number_on-append, number_on-is, number-below, AreDigits-drop, AreDigits-append}
 
 nearest-between : (a b q m : ℕ) → q * b ≤ 10 * a → 10 * a < q * b + b → m * 10 ≤ q + 5 → q + 5 < m * 10 + 10
     → (m * (2 * b) ≤ 2 * a + b) × (2 * a + b < (m + 1) * (2 * b))
@@ -56,8 +58,8 @@ front-is ds k j h e =
 
 -- the first digits are the number over a power of ten
 pub leading-is : (k : ℕ) (ds : List ℕ) → AreDigits ds → leading k ds ≡ number ds * 10 ^ k / 10 ^ length ds
-leading-is k ds h = elim (le-or-lt k (length ds)) [
-  | inl few ↦
+leading-is k ds h = elim (cases_lt (length ds) k) [
+  | inr few ↦
       let j = length ds - k in
       let none : k - length ds ≡ 0 = omega arith in
       let cut : number (take k ds) ≡ number ds / 10 ^ j = front-is ds k j h (omega arith) in
@@ -65,7 +67,7 @@ leading-is k ds h = elim (le-or-lt k (length ds)) [
       let whole : number ds * 10 ^ 0 ≡ number ds = omega arith in
       let once : number (take k ds) * 10 ^ (k - length ds) ≡ number (take k ds) = rw none (omega arith) in
       once ∙ cut ∙ (rw whole at same)
-  | inr many ↦
+  | inl many ↦
       let all : take k ds ≡ ds = take_all k ds (omega arith) in
       let same : number ds * 10 ^ (k - length ds) / 10 ^ 0 ≡ number ds * 10 ^ k / 10 ^ length ds = same-quotient (number ds) (k - length ds) 0 k (length ds) (omega arith) in
       let once : number ds * 10 ^ (k - length ds) / 10 ^ 0 ≡ number ds * 10 ^ (k - length ds) = omega arith in
@@ -92,12 +94,12 @@ leading-tenths w f (pos e) h =
     leading-is (length w + 5 + e) (w ++ f) h
     ∙ (same-quotient (number (w ++ f)) (length w + 5 + e) (length (w ++ f)) (e + 5) (length f + 0) (omega (arith, length-append w f))
     ∙ ap (λ n. n / 10 ^ (length f + 0)) (five-more (number (w ++ f)) e))
-leading-tenths w f (negsuc e) h = elim (le-or-lt e (length w + 4)) [
-  | inl near ↦
+leading-tenths w f (negsuc e) h = elim (cases_lt (length w + 4) e) [
+  | inr near ↦
       leading-is (length w + 4 - e) (w ++ f) h
       ∙ (same-quotient (number (w ++ f)) (length w + 4 - e) (length (w ++ f)) (0 + 5) (length f + suc e) (omega (arith, length-append w f))
       ∙ ap (λ n. n / 10 ^ (length f + suc e)) (five-more (number (w ++ f)) 0))
-  | inr far ↦
+  | inl far ↦
       let none : length w + 4 - e ≡ 0 = omega arith in
       let nothing : leading 0 (w ++ f) ≡ 0 = omega arith in
       rw none (nothing ∙ sym (tiny (number (w ++ f)) 0 (length (w ++ f)) (length f + suc e) (number-below (w ++ f) h) (omega (arith, length-append w f))))
@@ -114,16 +116,12 @@ past-limit e b n h =
 
 -- past the bound every value is past the limit
 pub limited-capped : {E : Type 0} (e : E) (b : Bool) (n : ℕ) → limited e (signed b ((min n beyond + 5) / 10)) ≡ limited e (signed b ((n + 5) / 10))
-limited-capped e b n = elim (le-or-lt n beyond) [
-  | inl within ↦ let same : min n beyond ≡ n = omega arith in rw same refl
-  | inr past ↦
+limited-capped e b n = elim (cases_lt beyond n) [
+  | inr within ↦ let same : min n beyond ≡ n = omega arith in rw same refl
+  | inl past ↦
       let least : min n beyond ≡ beyond = omega arith in
       rw least (past-limit e b ((beyond + 5) / 10) (omega arith) ∙ sym (past-limit e b ((n + 5) / 10) (omega arith)))
 ]
-
-pub neg-times : (n b : ℕ) → neg_ℤ (pos n) *ℤ pos b ≡ neg_ℤ (pos (n * b))
-neg-times zero b = omega (arith, ints)
-neg-times (suc n) b = refl
 
 pub round-neg : (a q : ℕ) → 0 < q → round (neg_ℤ (pos a)) (pos q) ≡ neg_ℤ (pos (nearest a q))
 round-neg zero q h =
@@ -134,7 +132,7 @@ round-neg (suc a) q h = refl
 
 round-signed : (b : Bool) (n u q : ℕ) → 0 < q → round ((signed b n *ℤ scale) *ℤ pos u) (pos q) ≡ signed b (nearest (n * 10_000 * u) q)
 round-signed false n u q h = refl
-round-signed true n u q h = rw (neg-times n 10_000, neg-times (n * 10_000) u) (round-neg (n * 10_000 * u) q h)
+round-signed true n u q h = rw (neg-times-pos n 10_000, neg-times-pos (n * 10_000) u) (round-neg (n * 10_000 * u) q h)
 
 -- the raw of a decimal has its sign, and the nearest magnitude
 pub raw_of-signed : (d : Decimal) → raw_of d ≡ signed d.negative (nearest (number (d.whole ++ d.fraction) * 10_000 * 10 ^ tens_up d.exponent) (10 ^ (length d.fraction + tens_down d.exponent)))

@@ -1,10 +1,10 @@
 -- The text of a number, and the number of a text.
-use Rattle.std.specs.Prelude.{◌≡◌, ℕ, ◌+◌, ◌/◌, ◌%◌, ◌==◌, int_lt, Bool, true, false, ◌⊎◌, List, [], ◌∷◌, ◌++◌, length, ℤ, pos, unsigned_abs, Option, Some, None, Result, Err, if◌then◌else◌}
+use Rattle.std.specs.Prelude.{ℕ, ◌+◌, ◌/◌, ◌%◌, ◌==◌, int_lt, Bool, true, false, List, [], ◌∷◌, ◌++◌, length, ℤ, pos, unsigned_abs, Option, Some, None, Result, Err, if◌then◌else◌}
 use Rattle.std.specs.Fmt.{decimal}
 use Rattle.pay_fixed.specs.declared.NumberFault.{NumberFault}
 use Rattle.pay_fixed.specs.declared.NumberFault.TheVariants.{NotNumber, TooLarge}
 use Rattle.pay_fixed.specs.Round.{limited}
-use Rattle.pay_fixed.specs.Grammar.{Decimal, IsDigit, raw_of}
+use Rattle.pay_fixed.specs.Grammar.{Decimal, raw_of}
 use Rattle.pay_fixed.specs.Reading.{Reading, is_whole, signed_at, after_blanks}
 
 -- the four digits of a number below ten thousand
@@ -39,10 +39,6 @@ sign_text false = []
 abbrev pub point_text : List ℕ → List ℕ
 point_text [] = []
 point_text (d ∷ ds) = 46 ∷ d ∷ ds
-
--- a minus, a point or a digit
-abbrev pub IsDecimalByte : ℕ → Type 0
-IsDecimalByte c = (c ≡ 45) ⊎ ((c ≡ 46) ⊎ IsDigit c)
 
 -- the text of a decimal without a power of ten
 abbrev pub text_of : Decimal → List ℕ

@@ -1,9 +1,9 @@
 //! Reading a decimal: `12.5`, `-0.0001`, `+1e-05`.
 
-ghost use Rattle.std.specs.Prelude.{◌≡◌, ℕ, ◌+◌, ◌-◌, ◌*◌, ◌/◌, ◌^◌, ◌<◌, ◌≤◌, min, ◌++◌, length};
+ghost use Rattle.std.specs.Prelude.{◌≡◌, ◌+◌, ◌-◌, ◌*◌, ◌^◌, ◌<◌, ◌≤◌, min, ◌++◌};
 ghost use Rattle.std.specs.Option.{option_map};
 ghost use Rattle.pay_fixed.specs.Round.{limited};
-ghost use Rattle.pay_fixed.specs.Grammar.{AreDigits, number_on, number, signed, raw_of};
+ghost use Rattle.pay_fixed.specs.Grammar.{AreDigits, number_on, signed, raw_of};
 ghost use Rattle.pay_fixed.specs.Reading.{after_blanks, all_blank, digits_at, after_digits, has_minus, after_sign, power_at, only_power, exponent_at, fraction_at, unsigned_at, signed_at};
 ghost use Rattle.pay_fixed.specs.Parts.{reading, beyond, leading, shifted_length};
 ghost use Rattle.pay_fixed.specs.Decimal.{decimal_in};

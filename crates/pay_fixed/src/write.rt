@@ -73,18 +73,18 @@ fn put_fraction(number: u64, into: &mut Vec<u8>) -> Result<(), AllocError>
     ensures full { OnErr result (vec_capacity into.old < vec_len into.old + length (point_text (without_zeros (four_digits number)))) }
     ensures capacity { vec_capacity into.old ≤ vec_capacity into.new }
 {
-    let a = b'0' + (number / 1000) as u8;
-    let b = b'0' + (number / 100 % 10) as u8;
-    let c = b'0' + (number / 10 % 10) as u8;
-    let d = b'0' + (number % 10) as u8;
-    if d != b'0' {
-        into.extend_from_slice(&[b'.', a, b, c, d])
-    } else if c != b'0' {
-        into.extend_from_slice(&[b'.', a, b, c])
-    } else if b != b'0' {
-        into.extend_from_slice(&[b'.', a, b])
-    } else if a != b'0' {
-        into.extend_from_slice(&[b'.', a])
+    let first = b'0' + (number / 1000) as u8;
+    let second = b'0' + (number / 100 % 10) as u8;
+    let third = b'0' + (number / 10 % 10) as u8;
+    let fourth = b'0' + (number % 10) as u8;
+    if fourth != b'0' {
+        into.extend_from_slice(&[b'.', first, second, third, fourth])
+    } else if third != b'0' {
+        into.extend_from_slice(&[b'.', first, second, third])
+    } else if second != b'0' {
+        into.extend_from_slice(&[b'.', first, second])
+    } else if first != b'0' {
+        into.extend_from_slice(&[b'.', first])
     } else {
         Ok(())
     }
