@@ -15,12 +15,12 @@ IsYearOfRange y = (pos 1900 ≤ℤ y) × (y ≤ℤ pos 2199)
 abbrev pub IsDayOf : ℕ → ℕ → ℕ → Type 0
 IsDayOf y m d = IsYearOfRange (pos y) × IsDate (pos y) (pos m) (pos d)
 
--- the test of that
+-- the test whether the calendar has this day, and its year is from 1900 to 2199
 abbrev pub is_day_of : ℕ → ℕ → ℕ → Bool
 is_day_of y m d =
     is_in_range 1900 2199 y && (is_in_range 1 12 m && is_in_range 1 (days_in_month (pos y) m) d)
 
--- the test of a range, as a fact
+-- a number that passed the test of a range lies in it
 pub in_range : (low high n : ℕ) → is_in_range low high n ≡ true → IsInRange low high n
 in_range low high n e =
     let p = and_parts _ _ e in

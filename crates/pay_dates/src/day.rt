@@ -8,7 +8,8 @@ use std::marker::Model;
 
 /// A day of the calendar from 1900-01-01 to 2199-12-31, in no time zone.
 ///
-/// Days compare by their numbers, so the earlier of two is the smaller.
+/// The calendar is the proleptic Gregorian one, as in ISO 8601. Days compare by their numbers, so the earlier of two
+/// is the smaller.
 #[derive(Clone, Copy, PartialEq, Eq, PartialOrd, Ord, Debug)]
 pub struct Day {
     date: Date,
@@ -65,7 +66,8 @@ impl Day {
         self.date.day() as u8
     }
 
-    /// The number of the day: days since 1970-01-01, negative before it.
+    /// The number of the day: days since 1970-01-01, negative before it; from -25,567 (1900-01-01) to 84,005
+    /// (2199-12-31).
     pub fn number(self) -> i32
         ensures number { result ≡ day_number self }
         ensures in_range { IsDay self }

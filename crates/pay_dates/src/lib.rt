@@ -1,4 +1,5 @@
-//! Days of the calendar from 1900-01-01 to 2199-12-31: their parts, their numbers and their texts.
+//! Days of the calendar from 1900-01-01 to 2199-12-31: their parts, their numbers and their texts. The calendar is
+//! the proleptic Gregorian one, as in ISO 8601.
 //!
 //! A `Day` is one date of these three hundred years. In a clause it is the plain date of
 //! `jiff_core`, so contracts speak of its `year`, `month` and `day`, of its number by `day_number`,

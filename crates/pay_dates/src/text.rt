@@ -1,8 +1,8 @@
-//! The text of a day, `YYYY-MM-DD`: read and written.
+//! The text of a day, `YYYY-MM-DD` (the extended form of ISO 8601): read and written.
 
 ghost use Rattle.std.specs.Prelude.{◌≡◌, ◌++◌, ◌+◌, ◌<◌, ◌≤◌, OnOk, OnErr, IsTrue, vec_len, vec_capacity};
 ghost use Rattle.pay_dates.specs.Days.{IsDay, day_in, day_text, has_form, two_at};
-ghost use Rattle.pay_dates.specs.Parts.{is_digit, has_two_digits};
+ghost use Rattle.pay_dates.specs.Parts.{has_two_digits};
 
 use crate::Day;
 
@@ -10,19 +10,12 @@ use crate::Day;
 #[derive(Clone, Copy, PartialEq, Eq, Debug)]
 pub struct NoMemory;
 
-/// Whether the byte is a decimal digit.
-fn is_digit(byte: u8) -> bool
-    ensures { result ≡ is_digit byte }
-{
-    byte >= b'0' && byte <= b'9'
-}
-
 /// Whether the two bytes from `at` on are digits.
 fn has_two_digits(bytes: &[u8; 10], at: usize) -> bool
     requires { at ≤ 8 }
     ensures { result ≡ has_two_digits at bytes.now }
 {
-    is_digit(bytes[at]) && is_digit(bytes[at + 1])
+    bytes[at].is_ascii_digit() && bytes[at + 1].is_ascii_digit()
 }
 
 /// Whether the bytes are digits but for a `-` after the fourth and after the seventh.
@@ -47,7 +40,7 @@ fn two_at(bytes: &[u8; 10], at: usize) -> u8
     10 * (bytes[at] - b'0') + (bytes[at + 1] - b'0')
 }
 
-/// The day that the bytes write as `YYYY-MM-DD`.
+/// The day that the ten bytes write as `YYYY-MM-DD`: a year of four digits, a month and a day of the month of two.
 ///
 /// `None` exactly where the bytes have another form, or write no day from 1900-01-01 to 2199-12-31.
 pub fn read_day(bytes: &[u8; 10]) -> Option<Day>
@@ -60,12 +53,12 @@ pub fn read_day(bytes: &[u8; 10]) -> Option<Day>
     Day::new(year, two_at(bytes, 5), two_at(bytes, 8))
 }
 
-/// The digit of a number below ten.
-fn digit(n: u8) -> u8
-    requires { n < 10 }
-    ensures { result ≡ 48 + n }
+/// The digit that writes a number below ten.
+fn digit(number: u8) -> u8
+    requires { number < 10 }
+    ensures { result ≡ 48 + number }
 {
-    b'0' + n
+    b'0' + number
 }
 
 /// Appends the day's text `YYYY-MM-DD`, ten bytes.

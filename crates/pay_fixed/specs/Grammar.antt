@@ -83,12 +83,12 @@ pub record SpellsDecimal (bytes : List ℕ) (d : Decimal) : Type 0 where
   pub spells_fraction : SpellsFraction fraction d.fraction
   pub spells_exponent : SpellsExponent exponent d.exponent
 
--- how many tens a power multiplies by
+-- how many times a power multiplies by ten
 abbrev pub tens_up : ℤ → ℕ
 tens_up (pos n) = n
 tens_up (negsuc n) = 0
 
--- how many tens a power divides by
+-- how many times a power divides by ten
 abbrev pub tens_down : ℤ → ℕ
 tens_down (pos n) = 0
 tens_down (negsuc n) = suc n

@@ -13,14 +13,14 @@ limit = 1_000_000_000_000_000_000
 abbrev pub nearest : ℕ → ℕ → ℕ
 nearest a b = (2 * a + b) / (2 * b)
 
--- the whole number nearest to n / d, a half away from zero
+-- the whole number nearest to n / d, a half away from zero: `roundTiesToAway` of IEEE 754
 abbrev pub round : ℤ → ℤ → ℤ
 round (pos a) (pos b) = pos (nearest a b)
 round (pos a) (negsuc b) = neg_ℤ (pos (nearest a (suc b)))
 round (negsuc a) (pos b) = neg_ℤ (pos (nearest (suc a) b))
 round (negsuc a) (negsuc b) = pos (nearest (suc a) (suc b))
 
--- q is as near to n / d as a half: 2 |n - q d| is at most |d|
+-- q lies at most a half from n / d: 2 |n - q d| is at most |d|
 abbrev pub IsNear : ℤ → ℤ → ℤ → Type 0
 IsNear n d q = 2 * unsigned_abs (n -ℤ (q *ℤ d)) ≤ unsigned_abs d
 

@@ -28,7 +28,7 @@ struct Parts<'a> {
 
 /// The number that a text spells: spaces and tabs at both ends count for nothing; what is between has 1 to 40 bytes,
 /// a sign or none, digits, perhaps a point and digits, perhaps `e` or `E`, a sign or none and one or two digits.
-/// Its exact value is rounded once to four places, a half away from zero.
+/// Its exact value is rounded once to four places, a half away from zero (IEEE 754's `roundTiesToAway`).
 ///
 /// [`NumberFault::NotNumber`] where the text has another form, [`NumberFault::TooLarge`] where it has this form and
 /// the rounded value lies beyond the limit.
@@ -196,7 +196,7 @@ fn places(whole: usize, exponent: i32) -> usize
     }
 }
 
-// The number that the first `count` digits write, with zeros after them where there are too few.
+// The number that the first `count` digits write, with zeros after them where there are too few; at most `BEYOND`.
 fn first_digits(whole: &[u8], fraction: &[u8], count: usize) -> u64
     ensures { result ≡ min (leading count (whole.now ++ fraction.now)) beyond }
 {
@@ -206,7 +206,7 @@ fn first_digits(whole: &[u8], fraction: &[u8], count: usize) -> u64
     with_zeros(with_digits(with_digits(0, front), next), left - next.len())
 }
 
-// The number that the digits write after those of `start`.
+// The number that the digits of `start` and then these write; at most `BEYOND`.
 fn with_digits(start: u64, digits: &[u8]) -> u64
     requires { start ≤ beyond }
     ensures { result ≡ min (number_on start digits.now) beyond }
@@ -218,7 +218,7 @@ fn with_digits(start: u64, digits: &[u8]) -> u64
     value
 }
 
-// The number with `count` zeros after it.
+// The number that the digits of `start` and then `count` zeros write; at most `BEYOND`.
 #[tactic(auto, using(crate::proofs::Capped::capped_zero))]
 fn with_zeros(start: u64, count: usize) -> u64
     requires { start ≤ beyond }
@@ -231,7 +231,7 @@ fn with_zeros(start: u64, count: usize) -> u64
     value
 }
 
-// The value with one more digit.
+// The value with one more digit after it; at most `BEYOND`.
 fn with_digit(value: u64, digit: u8) -> u64
     ensures { result ≡ min (10 * value + (digit - 48)) beyond }
 {
