@@ -4,15 +4,14 @@
 //! A `Day` is one date of these three hundred years. In a clause it is the plain date of
 //! `jiff_core`, so contracts speak of its `year`, `month` and `day`, of its number by `day_number`,
 //! the days since 1970-01-01, and of its text `YYYY-MM-DD` by `day_text`. `day_in` is the reading
-//! of a text. The laws tie the three together, and the order of days to that of their numbers.
+//! of a text. The [`laws`] tie the three together, and the order of days to that of their numbers.
 #![tactic(auto)]
 
 mod day;
-mod laws;
+pub mod laws;
 #[cfg(test)]
 mod tests;
 mod text;
 
 pub use day::Day;
-pub use laws::{day_number_orders, day_text_reads_back, days_compare_by_number};
 pub use text::{NoMemory, read_day, write_day};

@@ -3,9 +3,7 @@
 //! The numbers are counted by hand from 1970-01-01: 1900-01-01 lies 70 years of 365 days and 17 leap days before it,
 //! and 2199-12-31 lies 229 years, 56 leap days and 364 days after it.
 
-use crate::{
-    Day, day_number_orders, day_text_reads_back, days_compare_by_number, read_day, write_day,
-};
+use crate::{Day, laws, read_day, write_day};
 use std::cmp::Ordering;
 use std::test::Fail;
 
@@ -61,14 +59,14 @@ fn parts_text_and_order(rt: HostRuntime) -> Result<(), Fail> {
     write_day(day, &mut text)?;
     assert_eq!(rt; text.as_slice(), b"2024-06-28".as_slice());
     let eve = Day::new(2023, 12, 31).ok_or("no such day")?;
-    assert_eq!(rt; days_compare_by_number(eve, day), Ordering::Less);
+    assert_eq!(rt; laws::days_compare_by_number(eve, day), Ordering::Less);
     Ok(())
 }
 
 // The laws ask nothing of their caller.
 #[test]
 fn laws_are_called(_rt: HostRuntime) -> Result<(), Fail> {
-    day_text_reads_back();
-    day_number_orders();
+    laws::day_text_reads_back();
+    laws::day_number_orders();
     Ok(())
 }

@@ -20,8 +20,9 @@ use Rattle.pay_fixed.proofs.SpelledRead.{spelled-read}
 use Rattle.pay_fixed.proofs.AsSpelled.{limited-within}
 use Rattle.pay_fixed.proofs.Value.{round-neg, ten-pos, unsigned_abs-signed}
 
-own : IsNumeralModel AreDigits number
-own = numerals_by_fold AreDigits (search rules) number_on (search rules)
+-- `number` gives digits the value that std's lemmas on `decimal` speak of
+numerals : IsNumeralModel AreDigits number
+numerals = numerals_by_fold AreDigits (search rules) number_on (search rules)
 
 -- the digits without the zeros at their end, and those zeros
 keep-zeros : (n d : ℕ) (ds ws : List ℕ) → length ws ≤ length ds
@@ -113,7 +114,7 @@ exact-text z h =
     let fits : w < 2 ^ 64 = omega arith in
     let kept = zeros-back 0 (four_digits r) in
     let back : number ds * 10 ^ (4 - length ds) ≡ r = kept.0 ∙ four-number r small in
-    let of_whole : number whole ≡ w = digits_value-decimal own w fits in
+    let of_whole : number whole ≡ w = digits_value-decimal numerals w fits in
     let value : number (whole ++ ds) ≡ w * 10 ^ length ds + number ds =
     number_on-append 0 whole ds ∙ (number_on-is (number whole) ds ∙ ap (λ x. x * 10 ^ length ds + number ds) of_whole) in
     let sum : w * 10_000 + r ≡ m = omega arith in
@@ -149,7 +150,7 @@ text-spells z h =
     let ds = without_zeros (four_digits r) in
     let small : r < 10_000 = omega arith in
     let fits : w < 2 ^ 64 = omega arith in
-    let digits : AreDigits (decimal w) = digits_decimal own w fits in
+    let digits : AreDigits (decimal w) = digits_decimal numerals w fits in
     let some : 0 < length (decimal w) = decimal_nonempty w fits in
     let few : length (decimal w) ≤ 15 = length-decimal-le 15 w (omega arith) (omega arith) fits in
     let fraction : AreDigits ds = kept-digits (four_digits r) (four-are-digits r small) in
