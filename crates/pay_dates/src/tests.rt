@@ -62,11 +62,3 @@ fn parts_text_and_order(rt: HostRuntime) -> Result<(), Fail> {
     assert_eq!(rt; laws::days_compare_by_number(eve, day), Ordering::Less);
     Ok(())
 }
-
-// The laws ask nothing of their caller.
-#[test]
-fn laws_are_called(_rt: HostRuntime) -> Result<(), Fail> {
-    laws::day_text_reads_back();
-    laws::day_number_orders();
-    Ok(())
-}

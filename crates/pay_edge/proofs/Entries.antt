@@ -7,7 +7,7 @@ use Rattle.std.specs.Cmp.Lexicographic.{slice_cmp, pointwise, texts_ties, nat_li
 use Rattle.std.specs.FinMap.{find, get, insert, get-insert}
 use Rattle.std.specs.String.{string_bytes}
 use Rattle.pay_edge.specs.Edge.{Files, SameOthers}
-use Rattle.pay_edge.specs.Memory.{pair_of}
+use Rattle.pay_edge.specs.MemoryDepot.{pair_of}
 use Rattle.pay_edge.specs.declared.memory_depot.Entry.{Entry}
 
 -- a name among entries

@@ -1,5 +1,4 @@
 pub mod Entries
-pub mod Pieces
 pub mod Streams
 pub mod Told
 pub mod Wholes

@@ -1,5 +1,5 @@
 pub mod Edge
 pub mod Kept
-pub mod Memory
-pub mod MemoryText
+pub mod MemoryDepot
+pub mod MemorySink
 pub mod Outside

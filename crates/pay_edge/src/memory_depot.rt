@@ -4,7 +4,7 @@ ghost use Rattle.std.specs.Prelude.{◌≡◌, ◌⊎◌, ◌<◌, ◌≤◌, �
 ghost use Rattle.std.specs.Option.{option_map};
 ghost use Rattle.std.specs.FinMap as map;
 ghost use Rattle.pay_edge.specs.Edge.{Rose, one_more, OnlyRead, SameBut, Fetches, IsAbsent, SameOthers, replaced};
-ghost use Rattle.pay_edge.specs.Memory.{memory_files, memory_told, memory_read_faults, memory_write_faults, memory_fetches, memory_replaces, planned_fetches, planned_replaces, fails_fetch, fails_replace, IsNewDepot, SameCounts, SamePlans};
+ghost use Rattle.pay_edge.specs.MemoryDepot.{memory_files, memory_told, memory_read_faults, memory_write_faults, memory_fetches, memory_replaces, planned_fetches, planned_replaces, fails_fetch, fails_replace, IsNewDepot, SameCounts, SamePlans};
 
 use crate::depot::{Depot, FetchFault, NoMemory, ReplaceFault};
 use crate::kept::{next_is_planned, note_failure};

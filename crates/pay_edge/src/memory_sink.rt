@@ -23,7 +23,7 @@ pub struct MemorySink {
 }
 
 impl MemorySink {
-    ghost use Rattle.pay_edge.specs.MemoryText.{sink_text, sink_faults, sink_puts, sink_room, planned_puts, IsNewSink};
+    ghost use Rattle.pay_edge.specs.MemorySink.{sink_text, sink_faults, sink_puts, sink_room, planned_puts, IsNewSink};
 
     /// A sink with no text that takes up to `room` bytes, whose counts are 0 and whose puts are not to fail.
     ///
@@ -74,7 +74,7 @@ impl MemorySink {
 }
 
 impl MemorySink {
-    ghost use Rattle.pay_edge.specs.MemoryText.{refuses};
+    ghost use Rattle.pay_edge.specs.MemorySink.{refuses};
 
     // Whether the next put is to fail, or has no room for so many bytes.
     fn next_put_refuses(&self, size: usize) -> bool
@@ -86,7 +86,7 @@ impl MemorySink {
 }
 
 impl Sink for MemorySink {
-    ghost use Rattle.pay_edge.specs.MemoryText.{sink_text, sink_told, sink_faults, sink_puts, sink_room, planned_puts, refuses};
+    ghost use Rattle.pay_edge.specs.MemorySink.{sink_text, sink_told, sink_faults, sink_puts, sink_room, planned_puts, refuses};
 
     ghost text = { sink_told };
 

@@ -1,21 +1,50 @@
 -- A text that is put in pieces.
-use Rattle.std.proofs.Common.{◌≡◌, ℕ, ◌+◌, ◌<◌, List, ◌++◌, length, get_or, drop, map, Result, Ok, Err, OnOk, All, sym, ap, subst, ◌∙◌, append_assoc}
+use Rattle.std.proofs.Common.{◌≡◌, ℕ, ◌+◌, ◌<◌, List, ◌++◌, length, get_or, drop, map, Result, Ok, Err, OnOk, All, refl, sym, ap, subst, ◌∙◌, append_assoc}
 use Rattle.std.proofs.lemmas.List.{length-map, drop_more, get_or-map}
 use Rattle.std.specs.List.{flat_map}
 use Rattle.pay_tool.specs.declared.scenarios.ScenarioRow.{ScenarioRow}
 use Rattle.pay_tool.specs.Tables.{Row}
 use Rattle.pay_tool.specs.TableViews.{row}
 use Rattle.std.specs.declared.option.Option.{Option}
+use Rattle.std.specs.declared.option.Option.TheVariants.{None, Some}
 use Rattle.pay_edge.specs.Edge.{appended, AppendsFront}
-use Rattle.pay_edge.proofs.Pieces.{appended_twice, appended_more}
 use Rattle.pay_tool.specs.Puts.{HasPut}
+
+-- two pieces that are appended one after the other are both appended at once
+appended_in_turn : (told : Option (List ℕ)) (first second : List ℕ) → appended (appended told first) second ≡ appended told (first ++ second)
+appended_in_turn None first second = refl
+appended_in_turn (Some text) first second = ap Some (append_assoc text first second)
+
+-- two pieces were put
+appended_more : {mid new : Option (List ℕ)} (old : Option (List ℕ)) (first second : List ℕ) → mid ≡ appended old first → new ≡ appended mid second
+    → new ≡ appended old (first ++ second)
+appended_more old first second put next = next ∙ ap (λ told. appended told second) put ∙ appended_in_turn old first second
+
+-- a front of the first piece is a front of both
+pub front_first : {old new : Option (List ℕ)} (first second : List ℕ) → AppendsFront old new first → AppendsFront old new (first ++ second)
+front_first first second f = record {
+  front = f.front;
+  rest = f.rest ++ second;
+  split = sym (append_assoc f.front f.rest second) ∙ ap (λ piece. piece ++ second) f.split;
+  text = f.text;
+}
+
+-- the first piece and a front of the second are a front of both
+pub front_after : {mid new : Option (List ℕ)} (old : Option (List ℕ)) (first second : List ℕ) → mid ≡ appended old first → AppendsFront mid new second
+    → AppendsFront old new (first ++ second)
+front_after old first second put f = record {
+  front = first ++ f.front;
+  rest = f.rest;
+  split = append_assoc first f.front f.rest ∙ ap (λ piece. first ++ piece) f.split;
+  text = appended_more old first f.front put f.text;
+}
 
 -- a piece more was put
 put_more : (old now new : Option (List ℕ)) (piece remaining whole : List ℕ) → HasPut old now (piece ++ remaining) whole → new ≡ appended now piece → HasPut old new remaining whole
 put_more old now new piece remaining whole h e = record {
   front = h.front ++ piece;
   split = append_assoc h.front piece remaining ∙ h.split;
-  text = e ∙ ap (λ (t : Option (List ℕ)). appended t piece) h.text ∙ appended_twice old h.front piece;
+  text = e ∙ ap (λ (t : Option (List ℕ)). appended t piece) h.text ∙ appended_in_turn old h.front piece;
 }
 
 -- a front of the next piece was put, which is a front of the whole
@@ -24,7 +53,7 @@ put_part old now new piece remaining whole h f = record {
   front = h.front ++ f.front;
   rest = f.rest ++ remaining;
   split = append_assoc h.front f.front (f.rest ++ remaining) ∙ ap (λ xs. h.front ++ xs) (sym (append_assoc f.front f.rest remaining) ∙ ap (λ xs. xs ++ remaining) f.split) ∙ h.split;
-  text = f.text ∙ ap (λ (t : Option (List ℕ)). appended t f.front) h.text ∙ appended_twice old h.front f.front;
+  text = f.text ∙ ap (λ (t : Option (List ℕ)). appended t f.front) h.text ∙ appended_in_turn old h.front f.front;
 }
 
 -- the lines of rows from a place on begin with those of the row there

@@ -3,8 +3,7 @@ use Rattle.std.proofs.Common.{map}
 use Rattle.pay_tool.specs.Report.{header_line, last_line, report_rows}
 use Rattle.pay_tree.specs.Views.{event}
 use Rattle.pay_tool.specs.TableViews.{table}
-use Rattle.pay_edge.proofs.Pieces.{front_first, front_after}
-use Rattle.pay_tool.proofs.Pieces.{put_thrice}
+use Rattle.pay_tool.proofs.Pieces.{front_first, front_after, put_thrice}
 use Rattle.pay_tool.proofs.put.put_report.Goals as goal
 
 pub returns-in_err-put_piece-clause-front : goal.returns-in_err-put_piece-clause-front

@@ -2,7 +2,7 @@ use Rattle.std.proofs.Common.{◌≤◌, nat_eq, map, ap, sym, ◌∙◌, arith,
 use Rattle.std.specs.declared.option.Option.TheVariants.{Some}
 use Rattle.std.specs.Cmp.Lexicographic.{pointwise, nat_list_cmp_total}
 use Rattle.std.specs.FinMap.{get-from_entries}
-use Rattle.pay_edge.specs.Memory.{pair_of}
+use Rattle.pay_edge.specs.MemoryDepot.{pair_of}
 use Rattle.pay_edge.proofs.Entries.{found, found-here, found-beyond}
 use Rattle.pay_edge.proofs.memory_depot.MemoryDepot.bytes_of.Goals as goal
 

@@ -1,7 +1,7 @@
 use Rattle.std.proofs.Common.{subst, sym}
 use Rattle.std.specs.declared.option.Option.TheVariants.{Some}
 use Rattle.pay_edge.specs.Edge.{Files, SameOthers}
-use Rattle.pay_edge.specs.Memory.{memory_files, memory_told}
+use Rattle.pay_edge.specs.MemoryDepot.{memory_files, memory_told}
 use Rattle.pay_edge.proofs.Entries.{insert_others}
 use Rattle.pay_edge.proofs.memory_depot.MemoryDepotDepot.replace.Goals as goal
 
