@@ -105,7 +105,7 @@ impl<R: Files> Depot for FileDepot<R> {
     }
 }
 
-// Reads a file from the byte `at` on, until the buffer is full or the file ends.
+/// Reads a file from the byte `at` on, until the buffer is full or the file ends.
 fn read_at<R: Files>(runtime: &R, name: &str, at: u64, into: &mut [u8]) -> Result<usize, Failed>
     ensures { IfOk result (λ count. count ≤ length into.old) }
 {
@@ -118,7 +118,7 @@ fn read_at<R: Files>(runtime: &R, name: &str, at: u64, into: &mut [u8]) -> Resul
     read_full(&mut file, into)
 }
 
-// Reads until the buffer is full or the stream ends. Of a stream that tells what it has left, the bytes are the next.
+/// Reads until the buffer is full or the stream ends. Of a stream that tells what it has left, the bytes are the next.
 fn read_full<F: Read>(stream: &mut F, into: &mut [u8]) -> Result<usize, Failed>
     ensures bound { IfOk result (λ count. count ≤ length into.old) }
     ensures bytes { IfOk result (λ count. Consumes (F.remaining stream.old) (F.remaining stream.new) (take count into.new)) }
@@ -135,7 +135,7 @@ fn read_full<F: Read>(stream: &mut F, into: &mut [u8]) -> Result<usize, Failed>
     Ok(count)
 }
 
-// Makes a file of these bytes, in the place of what was there.
+/// Makes a file of these bytes, in the place of what was there.
 fn write_file<R: Files>(runtime: &R, name: &str, bytes: &[u8]) -> Result<(), Failed> {
     let Ok(mut file) = fs::File::create(runtime, name) else {
         return Err(Failed);

@@ -6,7 +6,7 @@ ghost use Rattle.pay_edge.specs.Kept.{IsNoted, is_planned};
 use crate::depot::NoMemory;
 use std::alloc::Global;
 
-// Notes a name at the front of a list.
+/// Notes a name at the front of a list.
 pub(crate) fn note_failure(
     alloc: Global,
     names: &mut Vec<String>,
@@ -21,7 +21,7 @@ pub(crate) fn note_failure(
     put_first(names, noted)
 }
 
-// Puts a name at the front of a list.
+/// Puts a name at the front of a list.
 pub(crate) fn put_first(names: &mut Vec<String>, noted: String) -> Result<(), NoMemory>
     ensures ok { OnOk result (names.new.items ≡ noted ∷ names.old.items) }
     ensures err { OnErr result (names.new.items ≡ names.old.items) }
@@ -32,7 +32,7 @@ pub(crate) fn put_first(names: &mut Vec<String>, noted: String) -> Result<(), No
     }
 }
 
-// Whether the call after `calls` others is one of those planned.
+/// Whether the call after `calls` others is one of those planned.
 pub(crate) fn next_is_planned(planned: &[u64], calls: u64) -> bool
     ensures { result ≡ is_planned planned.now calls }
 {

@@ -26,7 +26,7 @@ pub struct MemoryDepot {
     write_faults: u64,
 }
 
-// A file.
+/// A file.
 #[derive(Drop)]
 struct Entry {
     name: String,
@@ -122,14 +122,14 @@ impl MemoryDepot {
         None
     }
 
-    // Whether the next fetch is to fail.
+    /// Whether the next fetch is to fail.
     fn next_fetch_fails(&self) -> bool
         ensures { result ≡ fails_fetch self.now }
     {
         next_is_planned(&self.fetches_to_fail, self.fetches)
     }
 
-    // Whether the next replace is to fail.
+    /// Whether the next replace is to fail.
     fn next_replace_fails(&self) -> bool
         ensures { result ≡ fails_replace self.now }
     {
@@ -137,7 +137,7 @@ impl MemoryDepot {
     }
 }
 
-// Copies what a file has from the byte `at` on into the front of a buffer, and says how many bytes.
+/// Copies what a file has from the byte `at` on into the front of a buffer, and says how many bytes.
 fn copy_from(file: &[u8], at: u64, into: &mut [u8]) -> usize
     requires { 0 < length into.old }
     ensures bound { result ≤ length into.old }

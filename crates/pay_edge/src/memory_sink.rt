@@ -76,7 +76,7 @@ impl MemorySink {
 impl MemorySink {
     ghost use Rattle.pay_edge.specs.MemorySink.{refuses};
 
-    // Whether the next put is to fail, or has no room for so many bytes.
+    /// Whether the next put is to fail, or has no room for so many bytes.
     fn next_put_refuses(&self, size: usize) -> bool
         ensures { result ≡ refuses self.now size }
     {

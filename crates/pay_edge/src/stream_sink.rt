@@ -53,7 +53,7 @@ impl<W: Write> Sink for StreamSink<W> {
     }
 }
 
-// Writes all bytes and flushes. A stream that tells what it holds has got them all, or some first of them.
+/// Writes all bytes and flushes. A stream that tells what it holds has got them all, or some first of them.
 pub(crate) fn write_out<W: Write>(stream: &mut W, bytes: &[u8]) -> Result<(), Failed>
     ensures ok { OnOk result (Appends (W.contents stream.old) (W.contents stream.new) bytes.now) }
     ensures begun { (n : ℕ) × Appends (W.contents stream.old) (W.contents stream.new) (take n bytes.now) }
@@ -65,7 +65,7 @@ pub(crate) fn write_out<W: Write>(stream: &mut W, bytes: &[u8]) -> Result<(), Fa
     }
 }
 
-// Writes all bytes. A write that takes none of some bytes is a fault.
+/// Writes all bytes. A write that takes none of some bytes is a fault.
 fn write_each<W: Write>(stream: &mut W, bytes: &[u8]) -> Result<(), Failed>
     ensures ok { OnOk result (Appends (W.contents stream.old) (W.contents stream.new) bytes.now) }
     ensures begun { (n : ℕ) × Appends (W.contents stream.old) (W.contents stream.new) (take n bytes.now) }

@@ -7,7 +7,7 @@ ghost use Rattle.pay_edge.specs.Edge.Whole.{Missing, Long, Bytes};
 use crate::depot::{Depot, FetchFault};
 use std::alloc::Global;
 
-// How many bytes are fetched at once.
+/// How many bytes are fetched at once.
 const BUFFER: usize = 65_536;
 
 /// Why a file was not read as a whole.
@@ -66,7 +66,7 @@ pub fn read_whole<D: Depot>(
     }
 }
 
-// Fetches what follows the bytes read so far, and says whether any came.
+/// Fetches what follows the bytes read so far, and says whether any came.
 #[tactic(auto, using(crate::proofs::Wholes::begun_more))]
 fn read_more<D: Depot>(
     depot: &mut D,

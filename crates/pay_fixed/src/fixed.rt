@@ -70,7 +70,7 @@ impl Fixed {
     }
 }
 
-// The number with this raw, if it lies within the limit.
+/// The number with this raw, if it lies within the limit.
 fn limited_to(raw: i64) -> Result<Fixed, Arith>
     ensures { result ≡ limited Arith.Overflow raw }
 {

@@ -10,13 +10,13 @@ ghost use Rattle.pay_fixed.specs.Decimal.{decimal_in};
 
 use crate::{Fixed, LIMIT, NumberFault};
 
-// The most bytes that a decimal may have.
+/// The most bytes that a decimal may have.
 const MOST_BYTES: usize = 40;
 
-// From here on a value in tenths of a raw need not be known exactly: rounded, it lies beyond the limit.
+/// From here on a value in tenths of a raw need not be known exactly: rounded, it lies beyond the limit.
 const BEYOND: u64 = 10_000_000_000_000_000_010;
 
-// A decimal in a text, and the text after it.
+/// A decimal in a text, and the text after it.
 #[derive(Clone, Copy)]
 struct Parts<'a> {
     negative: bool,
@@ -46,7 +46,7 @@ pub fn read_decimal(bytes: &[u8]) -> Result<Fixed, NumberFault>
     rounded(parts)
 }
 
-// The text without the blanks at its front.
+/// The text without the blanks at its front.
 fn skip_blanks(text: &[u8]) -> &[u8]
     ensures { result.now ≡ after_blanks text.now }
 {
@@ -57,7 +57,7 @@ fn skip_blanks(text: &[u8]) -> &[u8]
     rest
 }
 
-// Whether the text has blanks alone.
+/// Whether the text has blanks alone.
 #[tactic(auto, using(crate::proofs::Digits::no_more_blanks))]
 fn is_blank(text: &[u8]) -> bool
     ensures { result ≡ all_blank text.now }
@@ -65,7 +65,7 @@ fn is_blank(text: &[u8]) -> bool
     skip_blanks(text).is_empty()
 }
 
-// The digits at the front of a text, and what follows them.
+/// The digits at the front of a text, and what follows them.
 fn split_digits(text: &[u8]) -> (&[u8], &[u8])
     ensures digits { result.0.now ≡ digits_at text.now }
     ensures rest { result.1.now ≡ after_digits text.now }
@@ -77,7 +77,7 @@ fn split_digits(text: &[u8]) -> (&[u8], &[u8])
     text.split_at(count)
 }
 
-// Whether a text begins with a minus, and what follows its sign.
+/// Whether a text begins with a minus, and what follows its sign.
 fn split_sign(text: &[u8]) -> (bool, &[u8])
     ensures minus { result.0 ≡ has_minus text.now }
     ensures rest { result.1.now ≡ after_sign text.now }
@@ -89,7 +89,7 @@ fn split_sign(text: &[u8]) -> (bool, &[u8])
     }
 }
 
-// A decimal with a sign or none.
+/// A decimal with a sign or none.
 fn read_signed(text: &[u8]) -> Option<Parts>
     ensures { option_map reading result ≡ signed_at text.now }
 {
@@ -98,7 +98,7 @@ fn read_signed(text: &[u8]) -> Option<Parts>
     Some(Parts { negative, ..parts })
 }
 
-// A decimal without a sign.
+/// A decimal without a sign.
 fn read_unsigned(text: &[u8]) -> Option<Parts>
     ensures { option_map reading result ≡ unsigned_at text.now }
 {
@@ -110,7 +110,7 @@ fn read_unsigned(text: &[u8]) -> Option<Parts>
     Some(Parts { whole, ..parts })
 }
 
-// What may follow the digits before the point.
+/// What may follow the digits before the point.
 fn read_fraction(text: &[u8]) -> Option<Parts>
     ensures { option_map reading result ≡ fraction_at text.now }
 {
@@ -125,7 +125,7 @@ fn read_fraction(text: &[u8]) -> Option<Parts>
     Some(Parts { fraction, ..parts })
 }
 
-// A power of ten, or none.
+/// A power of ten, or none.
 fn read_exponent(text: &[u8]) -> Option<Parts>
     ensures { option_map reading result ≡ exponent_at text.now }
 {
@@ -136,7 +136,7 @@ fn read_exponent(text: &[u8]) -> Option<Parts>
     read_power(negative, digits)
 }
 
-// The one or two digits of a power.
+/// The one or two digits of a power.
 #[tactic(auto, using(crate::proofs::Digits::small_power))]
 fn read_power(negative: bool, text: &[u8]) -> Option<Parts>
     ensures { option_map reading result ≡ power_at negative text.now }
@@ -149,7 +149,7 @@ fn read_power(negative: bool, text: &[u8]) -> Option<Parts>
     Some(only_power(if negative { -magnitude } else { magnitude }, rest))
 }
 
-// A power of ten, and the text after it.
+/// A power of ten, and the text after it.
 fn only_power(exponent: i32, rest: &[u8]) -> Parts
     ensures { reading result ≡ only_power exponent rest.now }
 {
@@ -162,7 +162,7 @@ fn only_power(exponent: i32, rest: &[u8]) -> Parts
     }
 }
 
-// The number of the decimal, if it lies within the limit.
+/// The number of the decimal, if it lies within the limit.
 fn rounded(parts: Parts) -> Result<Fixed, NumberFault>
     requires { AreDigits (reading parts).decimal.whole × AreDigits (reading parts).decimal.fraction }
     ensures { result ≡ limited NumberFault.TooLarge (raw_of (reading parts.entry).decimal) }
@@ -172,7 +172,7 @@ fn rounded(parts: Parts) -> Result<Fixed, NumberFault>
     limited_to(parts.negative, (tenths + 5) / 10)
 }
 
-// The number of this sign and magnitude, if it lies within the limit.
+/// The number of this sign and magnitude, if it lies within the limit.
 fn limited_to(negative: bool, magnitude: u64) -> Result<Fixed, NumberFault>
     requires { magnitude < 2 ^ 63 }
     ensures { result ≡ limited NumberFault.TooLarge (signed negative magnitude) }
@@ -182,7 +182,7 @@ fn limited_to(negative: bool, magnitude: u64) -> Result<Fixed, NumberFault>
     Fixed::from_raw(raw).ok_or(NumberFault::TooLarge)
 }
 
-// How many digits of a decimal say what its raw is: all before the point and five after it, moved by its power of ten.
+/// How many digits of a decimal say what its raw is: all before the point and five after it, moved by its power of ten.
 fn places(whole: usize, exponent: i32) -> usize
     requires { whole < 2 ^ 63 }
     ensures { result ≡ shifted_length whole exponent }
@@ -196,7 +196,7 @@ fn places(whole: usize, exponent: i32) -> usize
     }
 }
 
-// The number that the first `count` digits write, with zeros after them where there are too few; at most `BEYOND`.
+/// The number that the first `count` digits write, with zeros after them where there are too few; at most `BEYOND`.
 fn first_digits(whole: &[u8], fraction: &[u8], count: usize) -> u64
     ensures { result ≡ min (leading count (whole.now ++ fraction.now)) beyond }
 {
@@ -206,7 +206,7 @@ fn first_digits(whole: &[u8], fraction: &[u8], count: usize) -> u64
     with_zeros(with_digits(with_digits(0, front), next), left - next.len())
 }
 
-// The number that the digits of `start` and then these write; at most `BEYOND`.
+/// The number that the digits of `start` and then these write; at most `BEYOND`.
 fn with_digits(start: u64, digits: &[u8]) -> u64
     requires { start ≤ beyond }
     ensures { result ≡ min (number_on start digits.now) beyond }
@@ -218,7 +218,7 @@ fn with_digits(start: u64, digits: &[u8]) -> u64
     value
 }
 
-// The number that the digits of `start` and then `count` zeros write; at most `BEYOND`.
+/// The number that the digits of `start` and then `count` zeros write; at most `BEYOND`.
 #[tactic(auto, using(crate::proofs::Capped::capped_zero))]
 fn with_zeros(start: u64, count: usize) -> u64
     requires { start ≤ beyond }
@@ -231,7 +231,7 @@ fn with_zeros(start: u64, count: usize) -> u64
     value
 }
 
-// The value with one more digit after it; at most `BEYOND`.
+/// The value with one more digit after it; at most `BEYOND`.
 fn with_digit(value: u64, digit: u8) -> u64
     ensures { result ≡ min (10 * value + (digit - 48)) beyond }
 {

@@ -25,7 +25,7 @@ impl Fixed {
     }
 }
 
-// Appends the decimal of a raw; where there is no room, perhaps a part of it.
+/// Appends the decimal of a raw; where there is no room, perhaps a part of it.
 #[tactic(auto, using(std::proofs::Common::append_assoc), unfolding(crate::specs::Decimal::decimal_text))]
 fn put_decimal(raw: i64, into: &mut Vec<u8>) -> Result<(), AllocError>
     ensures ok { OnOk result (into.new.items ≡ into.old.items ++ decimal_text raw) }
@@ -38,7 +38,7 @@ fn put_decimal(raw: i64, into: &mut Vec<u8>) -> Result<(), AllocError>
     put_fraction(magnitude % 10_000, into)
 }
 
-// Appends a minus where the raw is below zero.
+/// Appends a minus where the raw is below zero.
 fn put_sign(raw: i64, into: &mut Vec<u8>) -> Result<(), AllocError>
     ensures ok { OnOk result (into.new.items ≡ into.old.items ++ sign_text (int_lt raw (pos 0))) }
     ensures err { OnErr result ((more : List ℕ) × (into.new.items ≡ into.old.items ++ more)) }
@@ -51,7 +51,7 @@ fn put_sign(raw: i64, into: &mut Vec<u8>) -> Result<(), AllocError>
     Ok(())
 }
 
-// Appends the digits of a number.
+/// Appends the digits of a number.
 fn put_whole(number: u64, into: &mut Vec<u8>) -> Result<(), AllocError>
     ensures ok { OnOk result (into.new.items ≡ into.old.items ++ decimal number) }
     ensures err { OnErr result ((more : List ℕ) × (into.new.items ≡ into.old.items ++ more)) }
@@ -65,7 +65,7 @@ fn put_whole(number: u64, into: &mut Vec<u8>) -> Result<(), AllocError>
     Ok(())
 }
 
-// Appends the point and the decimals of a number of ten-thousandths, without the zeros at their end.
+/// Appends the point and the decimals of a number of ten-thousandths, without the zeros at their end.
 fn put_fraction(number: u64, into: &mut Vec<u8>) -> Result<(), AllocError>
     requires { number < 10_000 }
     ensures ok { OnOk result (into.new.items ≡ into.old.items ++ point_text (without_zeros (four_digits number))) }

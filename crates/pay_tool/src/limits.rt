@@ -13,16 +13,22 @@ use pay_fixed::NoMemory;
 use pay_tree::{Expr, Item, Script, Stmt};
 use std::alloc::Global;
 
+/// The most `+`, `-` and `=` in one stretch of tokens.
 const MOST_OPERATORS: u32 = 96;
 
+/// The most events.
 const MOST_EVENTS: usize = 4_096;
 
+/// The most numbers and statements.
 const MOST_NODES: u64 = 262_144;
 
+/// The most payment statements.
 const MOST_PAYS: u64 = 16_384;
 
+/// The most different variables.
 const MOST_VARIABLES: usize = 1_024;
 
+/// The most different legs.
 const MOST_LEGS: usize = 256;
 
 /// Whether a script and its tokens keep every limit.
@@ -55,6 +61,7 @@ fn operators_of(token: &Token) -> u32
     }
 }
 
+/// Whether the token is a word, and no keyword.
 fn is_word(token: &Token) -> bool
     ensures { result ≡ is_word token.now }
 {
@@ -162,6 +169,7 @@ fn script_size(items: &[Item]) -> u64
     size
 }
 
+/// The numbers and statements of an item.
 fn item_size(tree: &Item) -> u64
     ensures { result ≡ counted (item_size (item tree.now)) }
 {
@@ -170,6 +178,7 @@ fn item_size(tree: &Item) -> u64
     }
 }
 
+/// How many payments a statement is: 1 or 0.
 fn pays_of(tree: &Stmt) -> u64
     ensures { result ≡ pays_of (statement tree.now) }
 {
@@ -190,6 +199,7 @@ fn body_pays(statements: &[Stmt]) -> u64
     pays
 }
 
+/// The payment statements of an item.
 fn item_pays(tree: &Item) -> u64
     ensures { result ≡ counted (item_pays (item tree.now)) }
 {
@@ -243,6 +253,7 @@ fn note_item_variables(alloc: Global, tree: &Item, names: &mut NameSet) -> Resul
     }
 }
 
+/// Adds the variables of a body to a set.
 #[tactic(auto, using(crate::proofs::LimitLemmas::gathered_append))]
 fn note_body_variables(
     alloc: Global,
@@ -318,6 +329,7 @@ fn note_item_legs(alloc: Global, tree: &Item, names: &mut NameSet) -> Result<(),
     }
 }
 
+/// Adds the legs of a body to a set.
 #[tactic(auto, using(crate::proofs::LimitLemmas::gathered_append))]
 fn note_body_legs(alloc: Global, statements: &[Stmt], names: &mut NameSet) -> Result<(), NoMemory>
     ensures { OnOk result (names.new ≡ gathered names.old (body_legs (body statements.now))) }

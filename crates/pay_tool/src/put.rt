@@ -9,7 +9,8 @@ ghost use Rattle.pay_tool.specs.Report.{row_lines, report_text};
 ghost use Rattle.pay_tool.specs.Tables.{are_distinct, IsGood};
 ghost use Rattle.pay_tool.specs.TableViews.{row, table};
 
-use crate::run_row::{columns_of_events, write_row_lines};
+use crate::columns::columns_of_events;
+use crate::run_row::write_row_lines;
 use crate::scenarios::{ScenarioRow, Scenarios};
 use pay_dates::Day;
 use pay_edge::Sink;

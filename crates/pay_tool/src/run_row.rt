@@ -7,7 +7,6 @@ ghost use Rattle.pay_tool.specs.TableViews.{row};
 ghost use Rattle.pay_tool.specs.Columns.{columns_of};
 ghost use Rattle.pay_tool.specs.Report.{row_lines};
 
-pub use crate::columns::columns_of_events;
 use crate::report::put_run;
 use crate::scenario_run::run_events;
 use crate::scenarios::ScenarioRow;

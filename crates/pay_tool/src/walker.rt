@@ -1,6 +1,6 @@
 //! The run of the statements of an event: its variables and payments, or its fault.
 
-ghost use Rattle.std.specs.Prelude.{◌≡◌, ◌∷◌, [], ◌++◌, IfErr, IfOk, OnOk, map};
+ghost use Rattle.std.specs.Prelude.{◌≡◌, ◌∷◌, [], ◌++◌, IfErr, IfOk, IsErrOf, IsOk, OnOk, map};
 ghost use Rattle.pay_meaning.specs.Meaning.{calc, value, effect, effect_of, after_payments};
 ghost use Rattle.pay_tree.specs.Views.{number, operator, statement, body};
 ghost use Rattle.pay_tool.specs.RunViews.{Extends, leaves, moment, payment, StopsAs};
@@ -131,6 +131,7 @@ fn run_statement<'a>(
 ) -> Result<(), Stop>
     ensures ok { OnOk result (after_payments (map payment payments.old.items) (effect_of (statement act.now) variables.old (moment at.now)) ≡ leaves variables.new payments.new.items) }
     ensures fault { IfErr result (StopsAs (effect_of (statement act.now) variables.old (moment at.now))) }
+    ensures memory { IsErrOf result Stop.NoMemory → IsOk (effect_of (statement act.now) variables.old (moment at.now)) }
     ensures kept { Extends payments.old.items payments.new.items }
 {
     match act {
