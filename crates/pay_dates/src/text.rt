@@ -5,10 +5,17 @@ ghost use Rattle.pay_dates.specs.Days.{IsDay, day_in, day_text, has_form, two_at
 ghost use Rattle.pay_dates.specs.Parts.{has_two_digits};
 
 use crate::Day;
+use std::alloc::AllocError;
 
 /// There was no memory left; nothing was changed.
 #[derive(Clone, Copy, PartialEq, Eq, Debug)]
 pub struct NoMemory;
+
+impl From<AllocError> for NoMemory {
+    fn from(_: AllocError) -> NoMemory {
+        NoMemory
+    }
+}
 
 /// Whether the two bytes from `at` on are digits.
 fn has_two_digits(bytes: &[u8; 10], at: usize) -> bool
@@ -87,8 +94,6 @@ pub fn write_day(day: Day, into: &mut Vec<u8>) -> Result<(), NoMemory>
         digit(number / 10),
         digit(number % 10),
     ];
-    if into.extend_from_slice(&text).is_err() {
-        return Err(NoMemory);
-    }
+    into.extend_from_slice(&text)?;
     Ok(())
 }

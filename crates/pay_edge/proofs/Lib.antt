@@ -1,4 +1,5 @@
 pub mod Entries
+pub mod Faults
 pub mod Streams
 pub mod Told
 pub mod Wholes

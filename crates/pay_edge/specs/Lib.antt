@@ -3,3 +3,4 @@ pub mod Kept
 pub mod MemoryDepot
 pub mod MemorySink
 pub mod Outside
+pub mod WholeFaults

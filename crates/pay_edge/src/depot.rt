@@ -5,9 +5,23 @@ ghost use Rattle.std.specs.declared.option.Option.{Option};
 ghost use Rattle.std.specs.FinMap as map;
 ghost use Rattle.pay_edge.specs.Edge.{Files, Rose, one_more, OnlyRead, SameBut, Fetches, IsAbsent, SameOthers, replaced};
 
+use std::alloc::{AllocError, AllocFailed};
+
 /// There was no memory for the call.
 #[derive(Clone, Copy, Debug, PartialEq, Eq)]
 pub struct NoMemory;
+
+impl From<AllocError> for NoMemory {
+    fn from(_: AllocError) -> NoMemory {
+        NoMemory
+    }
+}
+
+impl<T: Drop> From<AllocFailed<T>> for NoMemory {
+    fn from(_: AllocFailed<T>) -> NoMemory {
+        NoMemory
+    }
+}
 
 /// Why a fetch gave no bytes.
 #[derive(Clone, Copy, Debug, PartialEq, Eq)]
@@ -20,6 +34,17 @@ pub enum FetchFault {
     NoMemory,
 }
 
+impl From<NoMemory> for FetchFault {
+    ghost use Rattle.std.specs.Prelude.{◌≡◌};
+    ghost use Rattle.pay_edge.specs.declared.depot.FetchFault.{FetchFault};
+
+    ghost from_gives = { λ _ fault. fault ≡ FetchFault.NoMemory };
+
+    fn from(_: NoMemory) -> FetchFault {
+        FetchFault::NoMemory
+    }
+}
+
 /// Why a file was not replaced.
 #[derive(Clone, Copy, Debug, PartialEq, Eq)]
 pub enum ReplaceFault {
@@ -27,6 +52,17 @@ pub enum ReplaceFault {
     Failed,
     /// There was no memory for the bytes.
     NoMemory,
+}
+
+impl From<NoMemory> for ReplaceFault {
+    ghost use Rattle.std.specs.Prelude.{◌≡◌};
+    ghost use Rattle.pay_edge.specs.declared.depot.ReplaceFault.{ReplaceFault};
+
+    ghost from_gives = { λ _ fault. fault ≡ ReplaceFault.NoMemory };
+
+    fn from(_: NoMemory) -> ReplaceFault {
+        ReplaceFault::NoMemory
+    }
 }
 
 /// A place of files by name.

@@ -15,9 +15,7 @@ pub(crate) fn note_failure(
     ensures ok { OnOk result (IsNoted name.now names.old.items names.new.items) }
     ensures err { OnErr result (names.new.items ≡ names.old.items) }
 {
-    let Ok(noted) = String::from_str(alloc, name) else {
-        return Err(NoMemory);
-    };
+    let noted = String::from_str(alloc, name)?;
     put_first(names, noted)
 }
 
@@ -26,10 +24,8 @@ pub(crate) fn put_first(names: &mut Vec<String>, noted: String) -> Result<(), No
     ensures ok { OnOk result (names.new.items ≡ noted ∷ names.old.items) }
     ensures err { OnErr result (names.new.items ≡ names.old.items) }
 {
-    match names.insert(0, noted) {
-        Ok(()) => Ok(()),
-        Err(_) => Err(NoMemory),
-    }
+    names.insert(0, noted)?;
+    Ok(())
 }
 
 /// Whether the call after `calls` others is one of those planned.

@@ -62,14 +62,10 @@ impl MemoryDepot {
         ensures counts { SameCounts self.old self.new }
         ensures plans { SamePlans self.old self.new }
     {
-        let (Ok(name), Ok(bytes)) = (String::from_str(self.alloc, name), bytes.to_vec(self.alloc))
-        else {
-            return Err(NoMemory);
-        };
-        match self.entries.insert(0, Entry { name, bytes }) {
-            Ok(()) => Ok(()),
-            Err(_) => Err(NoMemory),
-        }
+        let name = String::from_str(self.alloc, name)?;
+        let bytes = bytes.to_vec(self.alloc)?;
+        self.entries.insert(0, Entry { name, bytes })?;
+        Ok(())
     }
 
     /// Asks that the fetch with this number fails. The first fetch has the number 1, and from the number 2^64 - 1 on
@@ -85,10 +81,8 @@ impl MemoryDepot {
         ensures files { memory_files self.new ≡ memory_files self.old }
         ensures counts { SameCounts self.old self.new }
     {
-        match self.fetches_to_fail.insert(0, call) {
-            Ok(()) => Ok(()),
-            Err(_) => Err(NoMemory),
-        }
+        self.fetches_to_fail.insert(0, call)?;
+        Ok(())
     }
 
     /// Asks that the replace with this number fails. The first replace has the number 1, and from the number 2^64 - 1
@@ -104,10 +98,8 @@ impl MemoryDepot {
         ensures files { memory_files self.new ≡ memory_files self.old }
         ensures counts { SameCounts self.old self.new }
     {
-        match self.replaces_to_fail.insert(0, call) {
-            Ok(()) => Ok(()),
-            Err(_) => Err(NoMemory),
-        }
+        self.replaces_to_fail.insert(0, call)?;
+        Ok(())
     }
 
     /// The bytes of the file `name`, or nothing where there is no such file.
@@ -206,10 +198,8 @@ impl Depot for MemoryDepot {
         let fails = self.next_fetch_fails();
         self.fetches = self.fetches.saturating_add(1);
         if fails {
-            return match note_failure(self.alloc, &mut self.failed, name) {
-                Ok(()) => Err(FetchFault::Failed),
-                Err(NoMemory) => Err(FetchFault::NoMemory),
-            };
+            note_failure(self.alloc, &mut self.failed, name)?;
+            return Err(FetchFault::Failed);
         }
         match self.bytes_of(name) {
             Some(file) => Ok(copy_from(file, at, into)),
@@ -245,10 +235,8 @@ impl Depot for MemoryDepot {
             self.write_faults = self.write_faults.saturating_add(1);
             return Err(ReplaceFault::Failed);
         }
-        match self.add(name, bytes) {
-            Ok(()) => Ok(()),
-            Err(NoMemory) => Err(ReplaceFault::NoMemory),
-        }
+        self.add(name, bytes)?;
+        Ok(())
     }
 }
 

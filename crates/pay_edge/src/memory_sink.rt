@@ -33,9 +33,7 @@ impl MemorySink {
     pub fn new(alloc: Global, room: u32) -> Result<MemorySink, NoMemory>
         ensures { IfOk result (IsNewSink room) }
     {
-        let Ok(text) = Vec::with_capacity(alloc, room as usize) else {
-            return Err(NoMemory);
-        };
+        let text = Vec::with_capacity(alloc, room as usize)?;
         Ok(MemorySink {
             text,
             room,
@@ -59,10 +57,8 @@ impl MemorySink {
         ensures puts { sink_puts self.new ≡ sink_puts self.old }
         ensures faults { sink_faults self.new ≡ sink_faults self.old }
     {
-        match self.puts_to_fail.insert(0, call) {
-            Ok(()) => Ok(()),
-            Err(_) => Err(NoMemory),
-        }
+        self.puts_to_fail.insert(0, call)?;
+        Ok(())
     }
 
     /// All bytes put.

@@ -5,7 +5,7 @@ ghost use Rattle.pay_edge.specs.Edge.{Rose, OnlyRead, SameBut, whole_of, IsBegun
 ghost use Rattle.pay_edge.specs.Edge.Whole.{Missing, Long, Bytes};
 
 use crate::depot::{Depot, FetchFault};
-use std::alloc::Global;
+use std::alloc::{AllocError, Global};
 
 /// How many bytes are fetched at once.
 const BUFFER: usize = 65_536;
@@ -21,6 +21,32 @@ pub enum WholeFault {
     TooLong,
     /// There was no memory for the bytes.
     NoMemory,
+}
+
+impl From<AllocError> for WholeFault {
+    ghost use Rattle.std.specs.Prelude.{◌≡◌};
+    ghost use Rattle.pay_edge.specs.declared.whole.WholeFault.{WholeFault};
+
+    ghost from_gives = { λ _ fault. fault ≡ WholeFault.NoMemory };
+
+    fn from(_: AllocError) -> WholeFault {
+        WholeFault::NoMemory
+    }
+}
+
+impl From<FetchFault> for WholeFault {
+    ghost use Rattle.std.specs.Prelude.{◌≡◌};
+    ghost use Rattle.pay_edge.specs.WholeFaults.{fault_of_fetch};
+
+    ghost from_gives = { λ fault whole. whole ≡ fault_of_fetch fault };
+
+    fn from(fault: FetchFault) -> WholeFault {
+        match fault {
+            FetchFault::Absent => WholeFault::Absent,
+            FetchFault::Failed => WholeFault::Failed,
+            FetchFault::NoMemory => WholeFault::NoMemory,
+        }
+    }
 }
 
 /// The bytes of the file `name`, of which at most `limit` are taken. The limit is at most 2^26.
@@ -52,18 +78,10 @@ pub fn read_whole<D: Depot>(
     ensures absent { IsErrOf result WholeFault.Absent → IsSomeAnd (D.files depot.old) (λ files. whole_of files name.now limit ≡ Missing) }
     ensures failed { IsErrOf result WholeFault.Failed → Rose (D.read_faults depot.old name.now) (D.read_faults depot.new name.now) }
 {
-    let mut buffer = match vec![in alloc; 0u8; BUFFER] {
-        Ok(buffer) => buffer,
-        Err(_) => return Err(WholeFault::NoMemory),
-    };
+    let mut buffer = vec![in alloc; 0u8; BUFFER]?;
     let mut bytes = Vec::new(alloc);
-    loop {
-        match read_more(depot, name, limit, &mut buffer, &mut bytes) {
-            Ok(true) => {}
-            Ok(false) => return Ok(bytes),
-            Err(fault) => return Err(fault),
-        }
-    }
+    while read_more(depot, name, limit, &mut buffer, &mut bytes)? {}
+    Ok(bytes)
 }
 
 /// Fetches what follows the bytes read so far, and says whether any came.
@@ -91,20 +109,13 @@ fn read_more<D: Depot>(
     ensures absent { IsErrOf result WholeFault.Absent → IsSomeAnd (D.files depot.old) (λ files. whole_of files name.now limit ≡ Missing) }
     ensures failed { IsErrOf result WholeFault.Failed → Rose (D.read_faults depot.old name.now) (D.read_faults depot.new name.now) }
 {
-    let count = match depot.fetch(name, bytes.len() as u64, buffer) {
-        Ok(count) => count,
-        Err(FetchFault::Absent) => return Err(WholeFault::Absent),
-        Err(FetchFault::Failed) => return Err(WholeFault::Failed),
-        Err(FetchFault::NoMemory) => return Err(WholeFault::NoMemory),
-    };
+    let count = depot.fetch(name, bytes.len() as u64, buffer)?;
     if count == 0 {
         return Ok(false);
     }
     if bytes.len() + count > limit as usize {
         return Err(WholeFault::TooLong);
     }
-    match bytes.extend_from_slice(&buffer[..count]) {
-        Ok(()) => Ok(true),
-        Err(_) => Err(WholeFault::NoMemory),
-    }
+    bytes.extend_from_slice(&buffer[..count])?;
+    Ok(true)
 }

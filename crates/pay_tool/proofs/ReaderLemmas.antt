@@ -1,5 +1,5 @@
 -- What a reader has read so far, and what is left.
-use Rattle.std.proofs.Common.{◌≡◌, ◌≢◌, ℕ, ◌+◌, ◌<◌, List, [], ◌∷◌, ◌++◌, length, Option, Some, None, Bool, true, false, refl, sym, ap, ◌∙◌, append_assoc, arith, length-append, cond, ℤ, not, ◌&&◌, ◌||◌, take, drop, get_or, inl, inr, Result, Err}
+use Rattle.std.proofs.Common.{◌≡◌, ◌≢◌, ℕ, ◌+◌, ◌<◌, List, [], ◌∷◌, ◌++◌, length, Option, Some, None, Bool, true, false, refl, sym, ap, ◌∙◌, append_assoc, arith, length-append, cond, ℤ, not, ◌&&◌, ◌||◌, take, drop, get_or, inl, inr}
 use Rattle.std.proofs.lemmas.Bool.{ne_eqb, lt-leb, and_right, cases_Bool, false_from_ne_true, and_parts, false≢true}
 use Rattle.std.proofs.lemmas.List.{take_more, take-append-drop}
 use Rattle.std.proofs.lemmas.List.Folds.{list_any-append, list_any_more}
@@ -184,7 +184,3 @@ pub scenarios-some : (text first : List ℕ) (below : List (List ℕ)) (dates : 
     → rows_if (rows_in columns below) ≡ Some rows → scenarios_in text ≡ Some (record { dates = dates; rows = rows })
 unfolding scenarios_in
 scenarios-some text first below dates columns rows cut is size good = rw (cut, is) (ap (table_of_rows dates) (rw size at good))
-
--- one error, whatever the value would have been
-pub same_error : {A B E : Type 0} (x y : E) → ◌≡◌ {A = Result A E} (Err x) (Err y) → ◌≡◌ {A = Result B E} (Err x) (Err y)
-same_error x y h = let e : x ≡ y = cc in ap (λ z. Err z) e

@@ -17,7 +17,6 @@ pub struct NameSet {
 }
 
 impl Model for NameSet {
-    ghost use Rattle.std.specs.Prelude.{ℕ};
     ghost use Rattle.std.specs.Ordering.{nat_cmp};
     ghost use Rattle.std.specs.Cmp.Lexicographic.{slice_cmp};
     ghost use Rattle.std.specs.Coded.{coded_ℕ, coded_list};

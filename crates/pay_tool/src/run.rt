@@ -1,6 +1,6 @@
 //! The command `run`.
 
-ghost use Rattle.std.specs.Prelude.{◌≡◌, ◌+◌, ◌≤◌, Some};
+ghost use Rattle.std.specs.Prelude.{◌+◌, ◌≤◌, Some};
 ghost use Rattle.pay_edge.specs.Edge.{OnlyRead};
 ghost use Rattle.pay_tool.specs.Causes.{Caused, ends_of};
 ghost use Rattle.pay_tool.specs.Fetches.{most_fetches};

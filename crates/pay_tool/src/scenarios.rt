@@ -2,7 +2,7 @@
 
 ghost use Rattle.std.specs.Prelude.{◌≡◌, ◌||◌};
 ghost use Rattle.std.specs.List.{list_all};
-ghost use Rattle.pay_tree.specs.Names.{is_digit, is_letter};
+ghost use Rattle.pay_tree.specs.Names.{is_letter};
 ghost use Rattle.pay_tool.specs.Tables.{is_capital, is_label, is_label_byte};
 
 use pay_dates::Day;

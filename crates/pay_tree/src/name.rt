@@ -6,7 +6,7 @@ ghost use Rattle.std.specs.Str.{bytes_eq};
 ghost use Rattle.pay_tree.specs.Names.{IsName, is_letter, is_digit, is_lower_word, is_keyword, is_name, keywords};
 
 use pay_fixed::NoMemory;
-use std::alloc::Global;
+use std::alloc::{AllocError, Global};
 use std::cmp::Ordering;
 use std::marker::Model;
 
@@ -37,6 +37,17 @@ pub enum NameFault {
     NotName,
     /// There was no memory for the name.
     NoMemory,
+}
+
+impl From<AllocError> for NameFault {
+    ghost use Rattle.std.specs.Prelude.{◌≡◌};
+    ghost use Rattle.pay_tree.specs.declared.name.NameFault.{NameFault};
+
+    ghost from_gives = { λ _ fault. fault ≡ NameFault.NoMemory };
+
+    fn from(_: AllocError) -> NameFault {
+        NameFault::NoMemory
+    }
 }
 
 /// Whether the byte is a lower-case ASCII letter or `_`.
@@ -159,11 +170,8 @@ impl Name {
         if !is_name(bytes) {
             return Err(NameFault::NotName);
         }
-        let mut copy = Vec::new(alloc);
-        match copy.extend_from_slice(bytes) {
-            Ok(()) => Ok(Name { bytes: copy }),
-            Err(_) => Err(NameFault::NoMemory),
-        }
+        let bytes = Vec::from_slice(alloc, bytes)?;
+        Ok(Name { bytes })
     }
 
     /// The bytes of the name.
@@ -182,10 +190,8 @@ impl Name {
     pub fn copy(&self, alloc: Global) -> Result<Name, NoMemory>
         ensures { IfOk result (λ name. name ≡ self.now) }
     {
-        match Vec::from_slice(alloc, self.bytes.as_slice()) {
-            Ok(bytes) => Ok(Name { bytes }),
-            Err(_) => Err(NoMemory),
-        }
+        let bytes = Vec::from_slice(alloc, self.bytes.as_slice())?;
+        Ok(Name { bytes })
     }
 }
 
