@@ -1,6 +1,6 @@
 //! The limits of a script: operators in a stretch, events, numbers and statements, payments, variables and legs.
 
-ghost use Rattle.std.specs.Prelude.{◌≡◌, [], ◌+◌, ◌≤◌, IfOk, OnOk, map};
+ghost use Rattle.std.specs.Prelude.{◌≡◌, ◌+◌, ◌≤◌, IfOk, OnOk, map};
 ghost use Rattle.std.specs.FinSet.{len};
 ghost use Rattle.pay_tree.specs.Views.{number, statement, body, item, script};
 ghost use Rattle.pay_tool.specs.Limits.{operators_of, is_word, begins_between, carried, stretches_within, number_size, statement_size, body_size, item_size, script_size, pays_of, body_pays, item_pays, script_pays, number_variables, statement_variables, body_variables, item_variables, script_variables, statement_legs, body_legs, item_legs, script_legs, name_count, is_within_limits};
