@@ -1,5 +1,5 @@
 -- Lemmas on the texts and numbers of days, for the crates above too.
-use Rattle.std.proofs.Common.{◌≡◌, ℕ, ◌+◌, ◌-◌, ◌*◌, ◌/◌, ◌%◌, ◌<◌, ◌≤◌, ℤ, pos, negsuc, neg_ℤ, ◌+ℤ◌, ◌≤ℤ◌, Bool, true, false, List, [], ◌∷◌, length, slice_index, Option, Some, None, refl, sym, ap, ◌∙◌, arith, ◌&&◌, drop, inl, inr, eqb-true}
+use Rattle.std.proofs.Common.{◌≡◌, ℕ, ◌+◌, ◌-◌, ◌*◌, ◌/◌, ◌%◌, ◌<◌, ◌≤◌, ℤ, pos, negsuc, neg_ℤ, ◌+ℤ◌, ◌≤ℤ◌, Bool, true, false, List, [], ◌∷◌, length, slice_index, Option, Some, None, refl, sym, ap, ◌∙◌, arith, ◌&&◌, drop, ◌⊎◌, inl, inr, eqb-true}
 use Rattle.std.specs.Prelude.{IsSome, IfSome, ◌↔◌}
 use Rattle.std.proofs.lemmas.Bool.{cases_Bool, false≢true, and_parts}
 use Rattle.std.proofs.lemmas.Option.{same_Some}
@@ -10,7 +10,7 @@ use Rattle.jiff_core.proofs.CalendarLemmas.{days_in_month_bounds, day_count-epoc
 use Rattle.jiff_core.proofs.MarchLemmas.{day_count-early}
 use Rattle.std.proofs.lemmas.Int.{by_lt_z}
 use Rattle.jiff.proofs.Family.{same_date, epoch_day_same, epoch_day-lt, days_from_civil-day, days_from_civil-next_month, days_from_civil-next_year}
-use Rattle.pay_dates.specs.Days.{Date, IsDay, IsNumberOfRange, day_text, day_number, day_in, day_of, day_if, is_day_of, IsDayOf, has_form, two_at, year_at, IsYearOfRange, IsDayByte}
+use Rattle.pay_dates.specs.Days.{Date, IsDay, IsNumberOfRange, day_text, day_number, day_in, day_of, day_if, is_day_of, IsDayOf, has_form, two_at, year_at, IsYearOfRange}
 use Rattle.std.specs.List.{All, AllByRecursion as ByRecursion}
 use Rattle.std.proofs.lemmas.List.Elements.{All-same, All-from_recursion}
 use Rattle.pay_dates.specs.Parts.{is_digit, in_range}
@@ -239,7 +239,11 @@ day_text-day_in xs d e =
           (rw found.1 year, day_text-spelled d (year_at xs) found.1 ∙ rw (found.2, found.3) (spelled-form xs form))
     ]
 
--- each byte of the text is a digit or a `-`
+-- a byte that the text of a day may have: a `-` or a digit
+abbrev pub IsDayByte : ℕ → Type 0
+IsDayByte b = (b ≡ 45) ⊎ ((48 ≤ b) × (b ≤ 57))
+
+-- each byte of the text is one
 bytes-spelled : (y m d : ℕ) → y < 10_000 → m < 100 → d < 100 → ByRecursion IsDayByte (spelled y m d)
 bytes-spelled y m d a b c =
     (inr (omega arith, omega arith), (inr (omega arith, omega arith), (inr (omega arith, omega arith), (inr (omega arith, omega arith), (inl refl, (inr (omega arith, omega arith), (inr (omega arith, omega arith), (inl refl, (inr (omega arith, omega arith), (inr (omega arith, omega arith), tt))))))))))

@@ -1,5 +1,5 @@
 -- What clauses see of a day: the plain date, its number, its text, and the reading of a text.
-use Rattle.std.specs.Prelude.{◌≡◌, ℕ, Bool, true, false, if◌then◌else◌, List, Option, Some, None, ℤ, pos, neg_ℤ, refl, ◌≤◌, ◌⊎◌}
+use Rattle.std.specs.Prelude.{◌≡◌, ℕ, Bool, true, false, if◌then◌else◌, List, Option, Some, None, ℤ, pos, neg_ℤ, refl}
 use Rattle.jiff_core.specs.Calendar.{IsBetween}
 use Rattle.std.specs.Ordering.{int_cmp}
 use Rattle.std.specs.declared.cmp.Ordering.{Ordering}
@@ -24,10 +24,6 @@ day_number d = epoch_day d
 -- a number of a day: -25,567 is 1900-01-01 and 84,005 is 2199-12-31
 abbrev pub IsNumberOfRange : ℤ → Type 0
 IsNumberOfRange n = IsBetween (neg_ℤ (pos 25_567)) (pos 84_005) n
-
--- a byte that the text of a day may have: a `-` or a digit
-abbrev pub IsDayByte : ℕ → Type 0
-IsDayByte b = (b ≡ 45) ⊎ ((48 ≤ b) × (b ≤ 57))
 
 -- days in the order of their numbers
 abbrev pub day_cmp : Date → Date → Ordering
