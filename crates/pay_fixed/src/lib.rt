@@ -17,7 +17,6 @@ mod write;
 
 pub use fixed::{Fixed, LIMIT};
 pub use read::read_decimal;
-
 use std::alloc::{AllocError, AllocFailed};
 
 /// There was no memory left; nothing was changed.

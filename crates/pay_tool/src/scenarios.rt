@@ -54,14 +54,7 @@ fn is_label_byte(byte: u8) -> bool
 fn are_label_bytes(bytes: &[u8]) -> bool
     ensures { result ≡ list_all is_label_byte bytes.now }
 {
-    let mut rest = bytes;
-    while let [byte, tail @ ..] = rest {
-        if !is_label_byte(*byte) {
-            return false;
-        }
-        rest = tail;
-    }
-    true
+    bytes.iter().all(|byte| is_label_byte(*byte))
 }
 
 /// Whether the bytes are 1 to 64 letters, digits, `_`, `.` and `-`.

@@ -70,12 +70,9 @@ fn mark_at(text: &[u8], mark: u8) -> usize
     ensures before { (k : ℕ) → k < result → slice_index text.now k ≢ mark }
     ensures found { result < length text.now → slice_index text.now result ≡ mark }
 {
-    for (at, byte) in text.iter().enumerate() {
-        if *byte == mark {
-            return at;
-        }
-    }
-    text.len()
+    text.iter()
+        .position(|byte| *byte == mark)
+        .unwrap_or(text.len())
 }
 
 /// The first piece of a text between marks, and the text behind its mark if it has one.

@@ -75,14 +75,7 @@ fn is_word_byte(byte: u8) -> bool
 fn are_word_bytes(bytes: &[u8]) -> bool
     ensures { result ≡ list_all (λ byte. is_letter byte || is_digit byte) bytes.now }
 {
-    let mut rest = bytes;
-    while let [byte, tail @ ..] = rest {
-        if !is_word_byte(*byte) {
-            return false;
-        }
-        rest = tail;
-    }
-    true
+    bytes.iter().all(|byte| is_word_byte(*byte))
 }
 
 /// Whether the bytes are a letter, and then letters and digits.
