@@ -1,104 +1,56 @@
 //! The keywords: which one lower-case letters are, if any.
 
-ghost use Rattle.std.specs.Prelude.{◌≡◌, drop};
-ghost use Rattle.pay_tool.specs.Tokens.{key_in, key_of, keys};
+ghost use Rattle.std.specs.Prelude.{◌≡◌, map};
+ghost use Rattle.pay_tool.specs.Tokens.{key_in, key_of};
 
 use crate::token::Key;
+
+/// The keywords, each behind its letters.
+const KEYWORDS: [(&[u8], Key); 23] = [
+    (b"schedule", Key::Schedule),
+    (b"from", Key::From),
+    (b"to", Key::To),
+    (b"every", Key::Every),
+    (b"following", Key::Following),
+    (b"preceding", Key::Preceding),
+    (b"modified", Key::Modified),
+    (b"do", Key::Do),
+    (b"end", Key::End),
+    (b"if", Key::If),
+    (b"then", Key::Then),
+    (b"else", Key::Else),
+    (b"endif", Key::Endif),
+    (b"pays", Key::Pays),
+    (b"min", Key::Min),
+    (b"max", Key::Max),
+    (b"abs", Key::Abs),
+    (b"spot", Key::Spot),
+    (b"period", Key::Period),
+    (b"days", Key::Days),
+    (b"not", Key::Not),
+    (b"and", Key::And),
+    (b"or", Key::Or),
+];
 
 /// The keyword that these lower-case letters are, if they are one.
 #[tactic(auto, unfolding(crate::specs::Tokens::key_of))]
 pub fn key_of(word: &[u8]) -> Option<Key>
     ensures { result ≡ key_of word.now }
 {
-    if word == b"schedule".as_slice() {
-        return Some(Key::Schedule);
-    }
-    if word == b"from".as_slice() {
-        return Some(Key::From);
-    }
-    if word == b"to".as_slice() {
-        return Some(Key::To);
-    }
-    if word == b"every".as_slice() {
-        return Some(Key::Every);
-    }
-    if word == b"following".as_slice() {
-        return Some(Key::Following);
-    }
-    if word == b"preceding".as_slice() {
-        return Some(Key::Preceding);
-    }
-    key_from_modified(word)
+    let keywords: [(&[u8], Key); 23] = KEYWORDS;
+    key_among(keywords.as_slice(), word)
 }
 
-/// The same among the keywords from `modified` on.
-fn key_from_modified(word: &[u8]) -> Option<Key>
-    ensures { result ≡ key_in (drop 6 keys) word.now }
+/// The keyword behind these letters, if there is one.
+fn key_among(keywords: &[(&[u8], Key)], word: &[u8]) -> Option<Key>
+    ensures { result ≡ key_in (map (λ entry. (entry.0.now, entry.1)) keywords.now) word.now }
 {
-    if word == b"modified".as_slice() {
-        return Some(Key::Modified);
-    }
-    if word == b"do".as_slice() {
-        return Some(Key::Do);
-    }
-    if word == b"end".as_slice() {
-        return Some(Key::End);
-    }
-    if word == b"if".as_slice() {
-        return Some(Key::If);
-    }
-    if word == b"then".as_slice() {
-        return Some(Key::Then);
-    }
-    if word == b"else".as_slice() {
-        return Some(Key::Else);
-    }
-    key_from_endif(word)
-}
-
-/// The same among the keywords from `endif` on.
-fn key_from_endif(word: &[u8]) -> Option<Key>
-    ensures { result ≡ key_in (drop 12 keys) word.now }
-{
-    if word == b"endif".as_slice() {
-        return Some(Key::Endif);
-    }
-    if word == b"pays".as_slice() {
-        return Some(Key::Pays);
-    }
-    if word == b"min".as_slice() {
-        return Some(Key::Min);
-    }
-    if word == b"max".as_slice() {
-        return Some(Key::Max);
-    }
-    if word == b"abs".as_slice() {
-        return Some(Key::Abs);
-    }
-    if word == b"spot".as_slice() {
-        return Some(Key::Spot);
-    }
-    key_from_period(word)
-}
-
-/// The same among the keywords from `period` on.
-fn key_from_period(word: &[u8]) -> Option<Key>
-    ensures { result ≡ key_in (drop 18 keys) word.now }
-{
-    if word == b"period".as_slice() {
-        return Some(Key::Period);
-    }
-    if word == b"days".as_slice() {
-        return Some(Key::Days);
-    }
-    if word == b"not".as_slice() {
-        return Some(Key::Not);
-    }
-    if word == b"and".as_slice() {
-        return Some(Key::And);
-    }
-    if word == b"or".as_slice() {
-        return Some(Key::Or);
+    let mut rest = keywords;
+    while let [(letters, key), tail @ ..] = rest {
+        if word == *letters {
+            return Some(*key);
+        }
+        rest = tail;
     }
     None
 }

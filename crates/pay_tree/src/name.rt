@@ -1,9 +1,9 @@
 //! Names of variables and of legs: which bytes are one, and their order.
 
-ghost use Rattle.std.specs.Prelude.{◌≡◌, ◌||◌, IfOk, OnOk, IsErrOf, drop, List, ℕ};
+ghost use Rattle.std.specs.Prelude.{◌≡◌, ◌||◌, IfOk, OnOk, IsErrOf};
 ghost use Rattle.std.specs.List.{list_all, list_any};
 ghost use Rattle.std.specs.Str.{bytes_eq};
-ghost use Rattle.pay_tree.specs.Names.{IsName, is_letter, is_digit, is_lower_word, is_keyword, is_name, keywords};
+ghost use Rattle.pay_tree.specs.Names.{IsName, is_letter, is_digit, is_lower_word, is_keyword, is_name};
 
 use pay_fixed::NoMemory;
 use std::alloc::{AllocError, Global};
@@ -88,55 +88,47 @@ fn is_lower_word(bytes: &[u8]) -> bool
     }
 }
 
+/// The words that the language keeps for itself.
+const KEYWORDS: [&[u8]; 23] = [
+    b"schedule",
+    b"from",
+    b"to",
+    b"every",
+    b"following",
+    b"preceding",
+    b"modified",
+    b"do",
+    b"end",
+    b"if",
+    b"then",
+    b"else",
+    b"endif",
+    b"pays",
+    b"min",
+    b"max",
+    b"abs",
+    b"spot",
+    b"period",
+    b"days",
+    b"not",
+    b"and",
+    b"or",
+];
+
 /// Whether the language keeps the word for itself.
 #[tactic(auto, unfolding(crate::specs::Names::is_keyword))]
 fn is_keyword(word: &[u8]) -> bool
     ensures { result ≡ is_keyword word.now }
 {
-    word == b"schedule".as_slice()
-        || word == b"from".as_slice()
-        || word == b"to".as_slice()
-        || word == b"every".as_slice()
-        || word == b"following".as_slice()
-        || word == b"preceding".as_slice()
-        || is_keyword_from_modified(word)
+    let keywords: [&[u8]; 23] = KEYWORDS;
+    is_among(keywords.as_slice(), word)
 }
 
-/// Whether the word is a keyword from `modified` on.
-fn is_keyword_from_modified(word: &[u8]) -> bool
-    ensures { result ≡ list_any (bytes_eq word.now) (drop 6 keywords) }
+/// Whether the word is one of these.
+fn is_among(words: &[&[u8]], word: &[u8]) -> bool
+    ensures { result ≡ list_any (λ other. bytes_eq word.now other.now) words.now }
 {
-    word == b"modified".as_slice()
-        || word == b"do".as_slice()
-        || word == b"end".as_slice()
-        || word == b"if".as_slice()
-        || word == b"then".as_slice()
-        || word == b"else".as_slice()
-        || is_keyword_from_endif(word)
-}
-
-/// Whether the word is a keyword from `endif` on.
-fn is_keyword_from_endif(word: &[u8]) -> bool
-    ensures { result ≡ list_any (bytes_eq word.now) (drop 12 keywords) }
-{
-    word == b"endif".as_slice()
-        || word == b"pays".as_slice()
-        || word == b"min".as_slice()
-        || word == b"max".as_slice()
-        || word == b"abs".as_slice()
-        || word == b"spot".as_slice()
-        || is_keyword_from_period(word)
-}
-
-/// Whether the word is a keyword from `period` on.
-fn is_keyword_from_period(word: &[u8]) -> bool
-    ensures { result ≡ list_any (bytes_eq word.now) (drop 18 keywords) }
-{
-    word == b"period".as_slice()
-        || word == b"days".as_slice()
-        || word == b"not".as_slice()
-        || word == b"and".as_slice()
-        || word == b"or".as_slice()
+    words.iter().any(|other| word == *other)
 }
 
 /// Whether the bytes are a name: at most 64 of them, a lower-case word, and no keyword.
