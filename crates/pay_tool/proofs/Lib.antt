@@ -15,6 +15,7 @@ pub mod TableSound
 pub mod TableComplete
 pub mod Pieces
 pub mod Spelled
+pub mod StretchLemmas
 pub mod Paid
 pub mod Ended
 pub mod OneAnswer

@@ -1,9 +1,10 @@
 -- The limits of a script.
 use Rattle.std.specs.Prelude.{ℕ, ◌+◌, nat_le, Bool, true, false, ◌&&◌, List, [], ◌∷◌, ◌++◌, length, if◌then◌else◌}
+use Rattle.std.specs.List.{list_all}
 use Rattle.std.specs.FinSet.{len}
 use Rattle.pay_meaning.specs.Language.{Number, literal, variable, spot, binary, Statement, assign, pay, Body, done, next, Item, plain, Script}
 use Rattle.pay_tool.specs.NameSets.{set_of}
-use Rattle.pay_tool.specs.declared.token.Sign.TheVariants.{Plus, Minus, ParenLeft, ParenRight, Semicolon, Equals}
+use Rattle.pay_tool.specs.declared.token.Sign.TheVariants.{Plus, Minus, ParenRight, Semicolon, Equals}
 use Rattle.pay_tool.specs.declared.token.Token.{Token}
 use Rattle.pay_tool.specs.declared.token.Token.TheVariants as token
 
@@ -12,44 +13,42 @@ abbrev pub operators_of : Token → ℕ
 operators_of (token.Sign Plus) = 1
 operators_of (token.Sign Minus) = 1
 operators_of (token.Sign Equals) = 1
-operators_of (token.Sign ParenLeft) = 0
-operators_of (token.Sign ParenRight) = 0
-operators_of (token.Sign Semicolon) = 0
-operators_of (token.Date date) = 0
-operators_of (token.Number digits) = 0
-operators_of (token.Word letters) = 0
-operators_of (token.Key k) = 0
+operators_of t = 0
 
 -- a name
 abbrev pub is_word : Token → Bool
 is_word (token.Word letters) = true
-is_word (token.Sign s) = false
-is_word (token.Date date) = false
-is_word (token.Number digits) = false
-is_word (token.Key k) = false
+is_word t = false
 
--- a stretch begins after a date and after `;`, and at a name whose token before is a name, a number or `)`
+-- a stretch begins behind a date and behind `;`, and at a name whose token before is a name, a number or `)`
 abbrev pub begins_between : Token → Token → Bool
 begins_between (token.Date date) following = true
+begins_between (token.Sign Semicolon) following = true
 begins_between (token.Number digits) following = is_word following
 begins_between (token.Word letters) following = is_word following
-begins_between (token.Key k) following = false
 begins_between (token.Sign ParenRight) following = is_word following
-begins_between (token.Sign Semicolon) following = true
-begins_between (token.Sign Plus) following = false
-begins_between (token.Sign Minus) following = false
-begins_between (token.Sign Equals) following = false
-begins_between (token.Sign ParenLeft) following = false
+begins_between t following = false
 
--- the operators since the stretch began, behind a token and before what follows it
-abbrev pub carried : Token → List Token → ℕ → ℕ
-carried t [] count = count
-carried t (following ∷ rest) count = if begins_between t following then 0 else count
+-- stretches, with one more token at the front of the first
+abbrev pub begin_with : Token → List (List Token) → List (List Token)
+begin_with t [] = (t ∷ []) ∷ []
+begin_with t (stretch ∷ rest) = (t ∷ stretch) ∷ rest
 
--- no stretch has more than so many operators, where the one that is open has had `count` of them
-abbrev pub stretches_within : ℕ → ℕ → List Token → Bool
-stretches_within most count [] = true
-stretches_within most count (t ∷ rest) = nat_le (count + operators_of t) most && stretches_within most (carried t rest (count + operators_of t)) rest
+-- tokens, cut where a stretch begins
+abbrev pub stretches : List Token → List (List Token)
+stretches [] = []
+stretches (t ∷ []) = (t ∷ []) ∷ []
+stretches (t ∷ following ∷ rest) =
+    if begins_between t following then (t ∷ []) ∷ stretches (following ∷ rest) else begin_with t (stretches (following ∷ rest))
+
+-- the operators of tokens
+abbrev pub operators_in : List Token → ℕ
+operators_in [] = 0
+operators_in (t ∷ rest) = operators_of t + operators_in rest
+
+-- a stretch has at most so many operators
+abbrev pub is_short : ℕ → List Token → Bool
+is_short most stretch = nat_le (operators_in stretch) most
 
 -- the parts of a number, with itself
 abbrev pub number_size : Number → ℕ
@@ -139,5 +138,5 @@ name_count names = len (set_of names)
 -- at most 96 operators in a stretch, 4,096 events, 262,144 numbers and statements, 16,384 payments, 1,024 variables and 256 legs
 unfoldable pub is_within_limits : List Token → Script → Bool
 is_within_limits tokens script =
-    stretches_within 96 0 tokens && nat_le (length script) 4096 && nat_le (script_size script) 262_144 && nat_le (script_pays script) 16_384
+    list_all (is_short 96) (stretches tokens) && nat_le (length script) 4096 && nat_le (script_size script) 262_144 && nat_le (script_pays script) 16_384
     && nat_le (name_count (script_variables script)) 1024 && nat_le (name_count (script_legs script)) 256

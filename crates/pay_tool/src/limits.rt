@@ -2,9 +2,10 @@
 
 ghost use Rattle.std.specs.Prelude.{◌≡◌, ◌+◌, ◌≤◌, IfOk, OnOk, map};
 ghost use Rattle.std.specs.FinSet.{len};
+ghost use Rattle.std.specs.List.{list_all};
 ghost use Rattle.pay_tree.specs.Views.{number, statement, body, item, script};
-ghost use Rattle.pay_tool.specs.Limits.{operators_of, is_word, begins_between, carried, stretches_within, number_size, statement_size, body_size, item_size, script_size, pays_of, body_pays, item_pays, script_pays, number_variables, statement_variables, body_variables, item_variables, script_variables, statement_legs, body_legs, item_legs, script_legs, name_count, is_within_limits};
-ghost use Rattle.pay_tool.specs.LimitSteps.{counted, gathered};
+ghost use Rattle.pay_tool.specs.Limits.{operators_of, is_word, begins_between, is_short, stretches, number_size, statement_size, body_size, item_size, script_size, pays_of, body_pays, item_pays, script_pays, number_variables, statement_variables, body_variables, item_variables, script_variables, statement_legs, body_legs, item_legs, script_legs, name_count, is_within_limits};
+ghost use Rattle.pay_tool.specs.LimitSteps.{carried, counted, gathered};
 
 use crate::names::NameSet;
 use crate::token::{Sign, Token};
@@ -52,11 +53,7 @@ fn operators_of(token: &Token) -> u32
 {
     match token {
         Token::Sign(Sign::Plus | Sign::Minus | Sign::Equals) => 1,
-        Token::Sign(Sign::ParenLeft | Sign::ParenRight | Sign::Semicolon) => 0,
-        Token::Date(_) => 0,
-        Token::Number(_) => 0,
-        Token::Word(_) => 0,
-        Token::Key(_) => 0,
+        _ => 0,
     }
 }
 
@@ -66,10 +63,7 @@ fn is_word(token: &Token) -> bool
 {
     match token {
         Token::Word(_) => true,
-        Token::Sign(_) => false,
-        Token::Date(_) => false,
-        Token::Number(_) => false,
-        Token::Key(_) => false,
+        _ => false,
     }
 }
 
@@ -78,13 +72,9 @@ fn begins_between(token: &Token, following: &Token) -> bool
     ensures { result ≡ begins_between token.now following.now }
 {
     match token {
-        Token::Date(_) => true,
-        Token::Number(_) => is_word(following),
-        Token::Word(_) => is_word(following),
-        Token::Key(_) => false,
-        Token::Sign(Sign::ParenRight) => is_word(following),
-        Token::Sign(Sign::Semicolon) => true,
-        Token::Sign(Sign::Plus | Sign::Minus | Sign::Equals | Sign::ParenLeft) => false,
+        Token::Date(_) | Token::Sign(Sign::Semicolon) => true,
+        Token::Number(_) | Token::Word(_) | Token::Sign(Sign::ParenRight) => is_word(following),
+        _ => false,
     }
 }
 
@@ -107,7 +97,7 @@ fn carried(token: &Token, rest: &[Token], count: u32) -> u32
 
 /// Whether no stretch has more operators than there may be.
 fn stretches_are_within(tokens: &[Token]) -> bool
-    ensures { result ≡ stretches_within MOST_OPERATORS 0 tokens.now }
+    ensures { result ≡ list_all (is_short MOST_OPERATORS) (stretches tokens.now) }
 {
     let mut rest = tokens;
     let mut count = 0;
