@@ -5,5 +5,6 @@ use Rattle.pay_tool.specs.Columns.{place_of}
 use Rattle.pay_tool.proofs.ColumnLemmas.{further}
 use Rattle.pay_tool.proofs.columns.places_of.Given as goal
 
+-- the map has the places of the dates from here on
 abbrev pub invariant-loop-index : goal.invariant-loop-index
 invariant-loop-index l = (number : ℤ) → get int_cmp l.places number ≡ further l.index (place_of number (drop l.index l.dates))

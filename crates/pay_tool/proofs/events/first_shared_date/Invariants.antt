@@ -3,6 +3,7 @@ use Rattle.pay_meaning.specs.Events.{shared_date}
 use Rattle.pay_tree.specs.Views.{event}
 use Rattle.pay_tool.proofs.events.first_shared_date.Given as goal
 
+-- what is left decides
 abbrev pub invariant-loop-rest : goal.invariant-loop-rest
 invariant-loop-rest l = shared_date (map event l.events) ≡ shared_date (map event l.rest)
 

@@ -4,6 +4,7 @@ use Rattle.pay_tree.specs.Views.{event}
 use Rattle.pay_tool.specs.RunViews.{payment}
 use Rattle.pay_tool.proofs.scenario_run.run_events.Given as goal
 
+-- the payments so far and what is left to pay are the meaning of all events
 abbrev pub invariant-loop-index : goal.invariant-loop-index
 invariant-loop-index l =
     meaning (map event l.events) no_variables (fixings_of l.dates l.cells)
