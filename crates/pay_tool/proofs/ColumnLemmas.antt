@@ -1,11 +1,10 @@
 -- Columns of dates: the places that a map has, and the cells there.
-use Rattle.std.proofs.Common.{◌≡◌, ℕ, suc, ◌+◌, ◌<◌, ℤ, Bool, true, false, not, ◌&&◌, ◌||◌, cond, List, [], ◌∷◌, length, map, Option, Some, None, IsTrue, get_or, refl, sym, ap, ◌∙◌, subst, arith, take, ◌++◌}
-use Rattle.std.specs.List.{list_any}
+use Rattle.std.proofs.Common.{◌≡◌, ℕ, suc, ◌+◌, ◌<◌, ℤ, Bool, true, false, cond, List, [], ◌∷◌, length, map, Option, Some, None, IsTrue, get_or, refl, sym, ap, ◌∙◌, subst, arith, take, ◌++◌}
 use Rattle.std.specs.Option.{option_map}
 use Rattle.std.specs.Ordering.{int_eq, int_cmp}
 use Rattle.std.specs.FinMap.{get, insert, get-empty, get-insert}
 use Rattle.std.specs.Cmp.{int_cmp_total, int_eq_equiv}
-use Rattle.std.proofs.lemmas.Bool.{false≢true}
+use Rattle.std.proofs.lemmas.Bool.{and_parts, or_parts, not-true}
 use Rattle.std.proofs.lemmas.Bool.Decides.{Decides-int_eq}
 use Rattle.pay_dates.specs.Days.{day_number}
 use Rattle.pay_dates.specs.declared.day.Day.{Day}
@@ -14,33 +13,9 @@ use Rattle.pay_tool.specs.Tables.{are_distinct}
 use Rattle.pay_tree.specs.declared.tree.NamedEvent.{NamedEvent}
 use Rattle.pay_tree.specs.Views.{event}
 use Rattle.std.proofs.lemmas.List.{map_more, get_or-map}
+use Rattle.pay_tool.proofs.DistinctLemmas.{is_among}
 use Rattle.pay_tool.specs.Columns.{place_of, columns_of}
 use Rattle.pay_tool.specs.Cells.{cell_at}
-
--- a date with this number is among these dates
-abbrev is_among : ℤ → List Day → Bool
-is_among number dates = list_any (λ (other : Day). int_eq (day_number other) number) dates
-
--- the parts of tests
-or-left : (a b : Bool) → (a || b) ≡ false → a ≡ false
-or-left true b e = e
-or-left false b e = refl
-
-or-right : (a b : Bool) → (a || b) ≡ false → b ≡ false
-or-right true b e = absurd (false≢true (sym e))
-or-right false b e = e
-
-and-left : (a b : Bool) → IsTrue (a && b) → a ≡ true
-and-left true b h = refl
-and-left false b h = h
-
-and-right : (a b : Bool) → IsTrue (a && b) → IsTrue b
-and-right true b h = h
-and-right false b h = absurd (false≢true h)
-
-not-true : (a : Bool) → not a ≡ true → a ≡ false
-not-true true e = sym e
-not-true false e = refl
 
 -- what an insertion answers, by the test of columns
 get-inserted : (m : Fixings) (date : Day) (raw number : ℤ) → get (insert m (day_number date) raw) number ≡ cond (int_eq (day_number date) number) (Some raw) (get m number)
@@ -52,11 +27,11 @@ get-inserted m date raw number =
 no-fixing : (dates : List Day) (cells : List (Option ℤ)) (number : ℤ) → is_among number dates ≡ false → get (fixings_of dates cells) number ≡ None
 no-fixing [] cells number none = get-empty int_cmp number
 no-fixing (date ∷ dates) [] number none = get-empty int_cmp number
-no-fixing (date ∷ dates) (None ∷ cells) number none = no-fixing dates cells number (or-right _ _ none)
+no-fixing (date ∷ dates) (None ∷ cells) number none = no-fixing dates cells number (or_parts _ _ none).1
 no-fixing (date ∷ dates) (Some raw ∷ cells) number none =
     get-inserted (fixings_of dates cells) date raw number
-    ∙ ap (λ (b : Bool). cond b (Some raw) (get (fixings_of dates cells) number)) (or-left (int_eq (day_number date) number) _ none)
-    ∙ no-fixing dates cells number (or-right _ _ none)
+    ∙ ap (λ (b : Bool). cond b (Some raw) (get (fixings_of dates cells) number)) (or_parts (int_eq (day_number date) number) _ none).0
+    ∙ no-fixing dates cells number (or_parts _ _ none).1
 
 -- a cell further on
 cell-later : (cell : Option ℤ) (cells : List (Option ℤ)) (place : Option ℕ) → cell_at (cell ∷ cells) (option_map suc place) ≡ cell_at cells place
@@ -82,7 +57,7 @@ first-fixing date dates None cells number distinct =
     skipped (int_eq (day_number date) number) (get (fixings_of dates cells) number)
     (λ here.
     let same : day_number date ≡ number = (Decides-int_eq (day_number date) number).0 here in
-    let apart : is_among (day_number date) dates ≡ false = not-true _ (and-left _ _ distinct) in
+    let apart : is_among (day_number date) dates ≡ false = not-true _ (and_parts _ _ distinct).0 in
     no-fixing dates cells number (subst (λ (z : ℤ). is_among z dates ≡ false) same apart))
 
 -- the cell in a column is the fixing of its number
@@ -92,7 +67,7 @@ cell-fixing [] cells number distinct full = sym (get-empty int_cmp number)
 cell-fixing (date ∷ dates) [] number distinct full = absurd (omega arith)
 cell-fixing (date ∷ dates) (cell ∷ cells) number distinct full =
     first-cell (int_eq (day_number date) number) cell cells (place_of number dates)
-    ∙ ap (cond (int_eq (day_number date) number) cell) (cell-fixing dates cells number (and-right _ _ distinct) (omega arith))
+    ∙ ap (cond (int_eq (day_number date) number) cell) (cell-fixing dates cells number (and_parts _ _ distinct).1 (omega arith))
     ∙ first-fixing date dates cell cells number distinct
 
 -- where no two dates are one and a row has a cell for each, the fixing at a date is the cell in its column

@@ -11,6 +11,7 @@ pub mod LexerLemmas
 mod ByteLemmas
 mod PieceLemmas
 mod ReaderLemmas
+mod DistinctLemmas
 pub mod TableSound
 pub mod TableComplete
 pub mod Pieces

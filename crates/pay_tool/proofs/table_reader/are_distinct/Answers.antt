@@ -5,7 +5,7 @@ use Rattle.std.proofs.lemmas.Bool.{not-false, not-true}
 use mir.Syntax.{w32}
 use mir.Val.{SFits}
 use Rattle.std.proofs.lemmas.Int.{to_z-of_z}
-use Rattle.pay_tool.proofs.ReaderLemmas.{distinct-more, distinct-repeat, among-more}
+use Rattle.pay_tool.proofs.DistinctLemmas.{distinct-more, distinct-repeat, among-more}
 use Rattle.pay_tool.proofs.table_reader.are_distinct.Goals as goal
 
 pub returns-then-not-added-clause-distinct : goal.returns-then-not-added-clause-distinct
