@@ -1,5 +1,5 @@
 -- What a reader has read so far, and what is left.
-use Rattle.std.proofs.Common.{◌≡◌, ◌≢◌, ℕ, ◌+◌, ◌<◌, List, [], ◌∷◌, ◌++◌, length, Option, Some, None, true, refl, sym, ap, ◌∙◌, append_assoc, arith, length-append, ℤ}
+use Rattle.std.proofs.Common.{◌≡◌, ◌≢◌, ℕ, ◌<◌, List, [], ◌∷◌, ◌++◌, length, Option, Some, None, true, refl, sym, ap, ◌∙◌, append_assoc, arith, length-append, ℤ}
 use Rattle.std.proofs.lemmas.Bool.{ne_eqb, lt-leb, and_right, false≢true}
 use Rattle.pay_dates.specs.Days.{day_in}
 use denote.Ref.{Bor}
