@@ -4,19 +4,21 @@ use Rattle.std.specs.Global.{Global}
 use Rattle.pay_meaning.specs.Language.{Script}
 use Rattle.pay_tree.specs.declared.tree.Item.{Item as ItemTree}
 use Rattle.pay_tree.specs.Views.{number, body, item}
-use Rattle.pay_tool.specs.declared.parser.ParseFault.{ParseFault}
-use Rattle.pay_tool.specs.declared.parser.ParseFault.TheVariants.{NotScript, NoMemory}
-use Rattle.pay_tool.specs.declared.parser.Head.{Head as HeadTree}
-use Rattle.pay_tool.specs.declared.parser.Head.TheVariants as head_tree
-use Rattle.pay_tool.specs.declared.parser.Left.{Left as LeftTree}
-use Rattle.pay_tool.specs.declared.parser.Left.TheVariants as left_tree
-use Rattle.pay_tool.specs.declared.parser.Mode.{Mode as ModeTree}
-use Rattle.pay_tool.specs.declared.parser.Mode.TheVariants as mode_tree
-use Rattle.pay_tool.specs.declared.parser.Place.{Place as PlaceTree}
-use Rattle.pay_tool.specs.declared.parser.Place.TheVariants as place_tree
-use Rattle.pay_tool.specs.declared.parser.Open.{Open as OpenTree}
-use Rattle.pay_tool.specs.declared.parser.State.{State as StateTree}
-use Rattle.pay_tool.specs.declared.parser.State.TheVariants as state_tree
+use Rattle.pay_tree.specs.declared.name.NameFault.{NameFault}
+use Rattle.pay_tree.specs.declared.name.NameFault.TheVariants as name_fault
+use Rattle.pay_tool.specs.declared.parse_fault.ParseFault.{ParseFault}
+use Rattle.pay_tool.specs.declared.parse_fault.ParseFault.TheVariants.{NotScript, NoMemory}
+use Rattle.pay_tool.specs.declared.place.Head.{Head as HeadTree}
+use Rattle.pay_tool.specs.declared.place.Head.TheVariants as head_tree
+use Rattle.pay_tool.specs.declared.place.Left.{Left as LeftTree}
+use Rattle.pay_tool.specs.declared.place.Left.TheVariants as left_tree
+use Rattle.pay_tool.specs.declared.place.Mode.{Mode as ModeTree}
+use Rattle.pay_tool.specs.declared.place.Mode.TheVariants as mode_tree
+use Rattle.pay_tool.specs.declared.place.Place.{Place as PlaceTree}
+use Rattle.pay_tool.specs.declared.place.Place.TheVariants as place_tree
+use Rattle.pay_tool.specs.declared.place.Open.{Open as OpenTree}
+use Rattle.pay_tool.specs.declared.place.State.{State as StateTree}
+use Rattle.pay_tool.specs.declared.place.State.TheVariants as state_tree
 use Rattle.pay_tool.specs.Reading.{Head, assigns, pays, Left, no_number, number_plus, number_minus, Mode, want, spot_named, spot_opened, after, Place, free, named, in_number, Open, on_date, State, start, inside}
 
 abbrev pub head : HeadTree → Head
@@ -55,3 +57,8 @@ abbrev pub Gives : {A B : Type 0} → (A → B) → Result A ParseFault → Opti
 Gives view (Ok tree) given = given ≡ Some (view tree)
 Gives view (Err NotScript) given = given ≡ None
 Gives view (Err NoMemory) given = IsSome given
+
+-- letters that are no name make the tokens no script
+abbrev pub fault_of_name : NameFault → ParseFault
+fault_of_name name_fault.NotName = NotScript
+fault_of_name name_fault.NoMemory = NoMemory

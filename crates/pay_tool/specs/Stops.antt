@@ -4,8 +4,8 @@ use Rattle.pay_tool.specs.declared.script.CheckStop.{CheckStop}
 use Rattle.pay_tool.specs.declared.script.CheckStop.TheVariants.{Refused, NoMemory}
 use Rattle.pay_tool.specs.declared.lexer.LexFault.{LexFault}
 use Rattle.pay_tool.specs.declared.lexer.LexFault.TheVariants as lexing
-use Rattle.pay_tool.specs.declared.parser.ParseFault.{ParseFault}
-use Rattle.pay_tool.specs.declared.parser.ParseFault.TheVariants as parsing
+use Rattle.pay_tool.specs.declared.parse_fault.ParseFault.{ParseFault}
+use Rattle.pay_tool.specs.declared.parse_fault.ParseFault.TheVariants as parsing
 use Rattle.pay_tool.specs.declared.refusal.Refusal.TheVariants.{NotScript}
 use Rattle.pay_tool.specs.Answers.{Input, bad, checked_script}
 

@@ -288,6 +288,7 @@ fn take_one<'a>(
     ensures taken { IfOk result (λ left. with_taken tokens.old.items (tokens_after 0 (first ∷ rest.now)) ≡ with_taken tokens.new.items (tokens_after 0 left.now)) }
     ensures shorter { IfOk result (λ left. length left.now ≤ length rest.now) }
     ensures none { IsErrOf result LexFault.NoToken → tokens_after 0 (first ∷ rest.now) ≡ None }
+    ensures memory { IsErrOf result LexFault.NoMemory → IsSome (token_at first rest.now) }
 {
     if is_blank(first) {
         return Ok(rest);

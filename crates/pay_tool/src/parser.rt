@@ -2,7 +2,6 @@
 
 ghost use Rattle.std.specs.Prelude.{◌≡◌, Some, None, IfOk, IsErrOf};
 ghost use Rattle.pay_fixed.specs.Decimal.{decimal_in};
-ghost use Rattle.pay_meaning.specs.Language.{binary as calculated};
 ghost use Rattle.pay_tree.specs.Names.{IsName};
 ghost use Rattle.pay_tree.specs.Views as tree_of;
 ghost use Rattle.pay_tool.specs.Reading as reading;
@@ -10,183 +9,14 @@ ghost use Rattle.pay_tool.specs.Reading.{script_in};
 ghost use Rattle.pay_tool.specs.ReadingViews as view;
 ghost use Rattle.pay_tool.specs.ReadingViews.{Gives};
 
+use crate::parse_fault::ParseFault;
+use crate::place::{
+    Head, Left, Mode, Open, Place, State, closed, dated, joined, wanting, with_number,
+};
 use crate::token::{Digits, Key, Letters, Sign, Token};
-use pay_dates::Day;
 use pay_fixed::read_decimal;
-use pay_tree::{Binary, Expr, Item, Name, NameFault, Script, Stmt};
-use std::alloc::{AllocError, AllocFailed, Global};
-
-/// Why tokens were not read as a script.
-#[derive(Clone, Copy, PartialEq, Eq, Debug)]
-pub enum ParseFault {
-    /// The tokens are no script of the language.
-    NotScript,
-    /// There was no memory for the script's tree.
-    NoMemory,
-}
-
-impl From<AllocError> for ParseFault {
-    ghost use Rattle.std.specs.Prelude.{◌≡◌};
-    ghost use Rattle.pay_tool.specs.declared.parser.ParseFault.{ParseFault};
-
-    ghost from_gives = { λ _ fault. fault ≡ ParseFault.NoMemory };
-
-    fn from(_: AllocError) -> ParseFault {
-        ParseFault::NoMemory
-    }
-}
-
-impl<T: Drop> From<AllocFailed<T>> for ParseFault {
-    ghost use Rattle.std.specs.Prelude.{◌≡◌};
-    ghost use Rattle.pay_tool.specs.declared.parser.ParseFault.{ParseFault};
-
-    ghost from_gives = { λ _ fault. fault ≡ ParseFault.NoMemory };
-
-    fn from(_: AllocFailed<T>) -> ParseFault {
-        ParseFault::NoMemory
-    }
-}
-
-/// What a statement does with its number.
-#[derive(Drop)]
-enum Head {
-    /// It gives it to this variable.
-    Assigns(Name),
-    /// It pays it to this leg.
-    Pays(Name),
-}
-
-/// What stands left of an atom in its number.
-#[derive(Drop)]
-enum Left {
-    Nothing,
-    /// A number and `+`.
-    Plus(Expr),
-    /// A number and `-`.
-    Minus(Expr),
-}
-
-/// The place in a number.
-#[derive(Drop)]
-enum Mode {
-    /// An atom is awaited.
-    Want(Left),
-    /// Behind `spot`.
-    SpotNamed(Left),
-    /// Behind `spot (`.
-    SpotOpened(Left),
-    /// Behind an atom.
-    After(Left, Expr),
-}
-
-/// The place in a statement.
-#[derive(Drop)]
-enum Place {
-    /// Between statements.
-    Free,
-    /// Behind the name that begins a statement.
-    Named(Name),
-    /// In the number of a statement.
-    InNumber(Head, Mode),
-}
-
-/// The item that is being read, with the items before it.
-#[derive(Drop)]
-struct Open {
-    items: Vec<Item>,
-    date: Day,
-    body: Vec<Stmt>,
-}
-
-/// The place in a script.
-#[derive(Drop)]
-enum State {
-    /// No token was read.
-    Start,
-    /// In an item.
-    Inside(Open, Place),
-}
-
-/// The number of two numbers under an operator.
-fn binary(alloc: Global, operator: Binary, left: Expr, right: Expr) -> Result<Expr, ParseFault>
-    ensures { Gives tree_of.number result (Some (calculated (tree_of.operator operator) (tree_of.number left) (tree_of.number right))) }
-{
-    let left = Box::new(alloc, left)?;
-    let right = Box::new(alloc, right)?;
-    Ok(Expr::Binary(operator, left, right))
-}
-
-/// The number that an atom ends.
-fn joined(alloc: Global, left: Left, atom: Expr) -> Result<Expr, ParseFault>
-    ensures { Gives tree_of.number result (Some (reading.joined (view.left left) (tree_of.number atom))) }
-{
-    match left {
-        Left::Nothing => Ok(atom),
-        Left::Plus(before) => binary(alloc, Binary::Add, before, atom),
-        Left::Minus(before) => binary(alloc, Binary::Sub, before, atom),
-    }
-}
-
-/// The statement that a number ends.
-fn headed(head: Head, value: Expr) -> Stmt
-    ensures { tree_of.statement result ≡ reading.headed (view.head head) (tree_of.number value) }
-{
-    match head {
-        Head::Assigns(name) => Stmt::Assign { name, value },
-        Head::Pays(leg) => Stmt::Pay { leg, amount: value },
-    }
-}
-
-/// What is open, with one more statement.
-#[tactic(auto, using(crate::proofs::BodyLemmas::body_push))]
-fn with_statement(mut open: Open, statement: Stmt) -> Result<Open, ParseFault>
-    ensures { Gives view.opened result (Some (reading.with_statement (view.opened «open») (tree_of.statement statement))) }
-{
-    open.body.push(statement)?;
-    Ok(open)
-}
-
-/// What is open, with the statement whose number an atom ends.
-fn with_number(
-    alloc: Global,
-    open: Open,
-    head: Head,
-    left: Left,
-    atom: Expr,
-) -> Result<Open, ParseFault>
-    ensures { Gives view.opened result (Some (reading.with_statement (view.opened «open») (reading.headed (view.head head) (reading.joined (view.left left) (tree_of.number atom))))) }
-{
-    let value = joined(alloc, left, atom)?;
-    with_statement(open, headed(head, value))
-}
-
-/// The items, with the one that is open.
-fn closed(open: Open) -> Result<Vec<Item>, ParseFault>
-    ensures { Gives view.items result (Some (reading.closed (view.opened «open»))) }
-{
-    let Open {
-        mut items,
-        date,
-        body,
-    } = open;
-    items.push(Item::Plain { date, body })?;
-    Ok(items)
-}
-
-/// The place behind the date of a new item.
-fn dated(alloc: Global, items: Vec<Item>, date: Day) -> State
-    ensures { view.state result ≡ reading.dated (view.items items) date }
-{
-    let body = Vec::new(alloc);
-    State::Inside(Open { items, date, body }, Place::Free)
-}
-
-/// The place where an atom is awaited, behind what stands left of it.
-fn wanting(open: Open, head: Head, left: Left) -> State
-    ensures { view.state result ≡ reading.inside (view.opened «open») (reading.in_number (view.head head) (reading.want (view.left left))) }
-{
-    State::Inside(open, Place::InNumber(head, Mode::Want(left)))
-}
+use pay_tree::{Expr, Item, Name, Script};
+use std::alloc::Global;
 
 /// The name that letters are.
 fn name_of(alloc: Global, letters: &Letters) -> Result<Name, ParseFault>
@@ -194,11 +24,8 @@ fn name_of(alloc: Global, letters: &Letters) -> Result<Name, ParseFault>
     ensures refused { IsErrOf result ParseFault.NotScript → ¬ IsName letters.now }
     ensures no_memory { IsErrOf result ParseFault.NoMemory → IsName letters.now }
 {
-    match Name::read(alloc, letters.bytes()) {
-        Ok(name) => Ok(name),
-        Err(NameFault::NotName) => Err(ParseFault::NotScript),
-        Err(NameFault::NoMemory) => Err(ParseFault::NoMemory),
-    }
+    let name = Name::read(alloc, letters.bytes())?;
+    Ok(name)
 }
 
 /// The place behind the name that begins a statement.
