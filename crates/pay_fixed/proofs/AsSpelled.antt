@@ -4,7 +4,7 @@ use Rattle.std.specs.Prelude.{nat_le, Ok, Err}
 use Rattle.std.proofs.lemmas.Bool.{cases_Bool}
 use Rattle.pay_fixed.specs.declared.NumberFault.TheVariants.{NotNumber, TooLarge}
 use Rattle.pay_fixed.specs.Round.{limit, limited, IsRaw}
-use Rattle.pay_fixed.specs.Grammar.{Decimal, SpellsDecimal, raw_of}
+use Rattle.pay_fixed.specs.Grammar.{Decimal, SpellsDecimal, SpellsRaw, raw_of}
 use Rattle.pay_fixed.specs.Reading.{Reading, after_blanks, signed_at, is_whole}
 use Rattle.pay_fixed.specs.Decimal.{judged, decimal_in}
 use Rattle.pay_fixed.specs.Laws.{DecimalIsSpelled}
@@ -88,3 +88,13 @@ decimal_is_spelled bytes = record {
   too_large = (too_large-spelled bytes, λ w. spelled-read bytes w.0 w.1 ∙ limited-beyond TooLarge (raw_of w.0) w.2);
   not_number = (not_number-spelled bytes, unspelled bytes);
 }
+
+-- bytes that are read as a raw spell it
+pub raw-spelled : (bytes : List ℕ) (z : ℤ) → decimal_in bytes ≡ Ok z → SpellsRaw bytes z
+raw-spelled bytes z e =
+    let is = ((decimal_is_spelled bytes).number z).0 e in
+    record { decimal = is.0; spells = is.1; value = is.2; within = is.3 }
+
+-- bytes that spell a raw are read as it
+pub spelled-raw : (bytes : List ℕ) (z : ℤ) → SpellsRaw bytes z → decimal_in bytes ≡ Ok z
+spelled-raw bytes z s = ((decimal_is_spelled bytes).number z).1 (s.decimal, s.spells, s.value, s.within)

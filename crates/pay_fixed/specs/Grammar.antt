@@ -1,6 +1,6 @@
 -- What spells a decimal, and which number it is.
 use Rattle.std.specs.Prelude.{◌≡◌, ℕ, suc, ◌+◌, ◌-◌, ◌*◌, ◌^◌, ◌≤◌, Bool, true, false, ◌⊎◌, List, [], ◌∷◌, ◌++◌, length, ℤ, pos, negsuc, neg_ℤ, ◌*ℤ◌}
-use Rattle.pay_fixed.specs.Round.{scale, round}
+use Rattle.pay_fixed.specs.Round.{scale, round, IsRaw}
 
 -- a decimal as it is spelled: its sign, its digits before and after the point, and its power of ten
 pub record Decimal : Type 0 where
@@ -105,6 +105,13 @@ denominator d = pos (10 ^ (length d.fraction + tens_down d.exponent))
 -- the raw of a decimal: its exact value in raws, rounded once
 unfoldable pub raw_of : Decimal → ℤ
 raw_of d = round (numerator d) (denominator d)
+
+-- the bytes spell a decimal whose raw is z, within the limit
+pub record SpellsRaw (bytes : List ℕ) (z : ℤ) : Type 0 where
+  pub decimal : Decimal
+  pub spells : SpellsDecimal bytes decimal
+  pub value : raw_of decimal ≡ z
+  pub within : IsRaw z
 
 -- the value of a decimal is z raws exactly
 abbrev pub IsExactly : Decimal → ℤ → Type 0

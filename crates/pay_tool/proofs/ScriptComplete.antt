@@ -1,6 +1,7 @@
 -- A script that tokens spell is read from them.
 use Rattle.std.proofs.Common.{◌≡◌, ℕ, Bool, IsTrue, List, [], ◌∷◌, ◌++◌, Some, None, if◌then◌else◌, refl, sym, ap, ◌∙◌, append_assoc}
 use Rattle.pay_dates.specs.declared.day.Day.{Day}
+use Rattle.pay_fixed.proofs.AsSpelled.{spelled-raw}
 use Rattle.pay_meaning.specs.Language.{Number, literal, variable, Statement, assign, pay, Body, done, and_then, Item, Script}
 use Rattle.pay_tree.specs.Names.{is_name, IsName}
 use Rattle.pay_tool.specs.declared.token.Key.TheVariants as key
@@ -23,7 +24,7 @@ run_step σ t to rest e = rw e refl
 -- tokens that spell an atom lead behind it
 atom_read : (ts : List Token) (n : Number) → SpellsAtom ts n → (o : Open) (h : Head) (s : Left) (rest : List Token)
     → run (inside o (in_number h (want s))) (ts ++ rest) ≡ run (inside o (in_number h (after s n))) rest
-atom_read _ _ (of_literal digits raw e) o h s rest = run_step (inside o (in_number h (want s))) (token.Number digits) (inside o (in_number h (after s (literal raw)))) rest (ap (step_literal o h s) e)
+atom_read _ _ (of_literal digits raw e) o h s rest = run_step (inside o (in_number h (want s))) (token.Number digits) (inside o (in_number h (after s (literal raw)))) rest (ap (step_literal o h s) (spelled-raw digits raw e))
 atom_read _ _ (of_variable name k) o h s rest =
     let to = inside o (in_number h (after s (variable name))) in
     run_step (inside o (in_number h (want s))) (token.Word name) to rest (chosen (is_name name) to k)

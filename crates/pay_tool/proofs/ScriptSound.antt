@@ -4,6 +4,7 @@ use Rattle.std.specs.Option.{IfSome, option_and_then}
 use Rattle.pay_dates.specs.declared.day.Day.{Day}
 use Rattle.pay_fixed.specs.declared.NumberFault.{NumberFault}
 use Rattle.pay_fixed.specs.Decimal.{decimal_in}
+use Rattle.pay_fixed.proofs.AsSpelled.{raw-spelled}
 use Rattle.pay_meaning.specs.Language.{Number, literal, variable, spot, Statement, Body, done, and_then, plain, Script}
 use Rattle.pay_tree.specs.Names.{is_name, IsName}
 use Rattle.pay_tool.specs.declared.token.Key.TheVariants as key
@@ -101,7 +102,7 @@ past_named o name ts _ k h = tt
 past_literal : (o : Open) (h : Head) (s : Left) (ts hs ms : List Token) (digits : List ℕ) (r : Result ℤ NumberFault) → SpellsOpen o ts → SpellsHead h hs → SpellsLeft s ms
     → decimal_in digits ≡ r → IfSome (step_literal o h s r) (λ σ. Past σ ((ts ++ (hs ++ ms)) ++ token.Number digits ∷ []))
 past_literal o h s ts hs ms digits (Ok raw) k l j e =
-    past_mode o h (after s (literal raw)) ts hs (ms ++ token.Number digits ∷ []) _ k l (behind s (literal raw) ms (token.Number digits ∷ []) j (of_literal digits raw e)) (simp append_assoc)
+    past_mode o h (after s (literal raw)) ts hs (ms ++ token.Number digits ∷ []) _ k l (behind s (literal raw) ms (token.Number digits ∷ []) j (of_literal digits raw (raw-spelled digits raw e))) (simp append_assoc)
 past_literal o h s ts hs ms digits (Err fault) k l j e = tt
 
 past_want : (o : Open) (h : Head) (s : Left) (ts hs ms : List Token) (t : Token) → SpellsOpen o ts → SpellsHead h hs → SpellsLeft s ms

@@ -11,6 +11,7 @@ use Rattle.pay_tool.specs.Tables.{Row, is_label, is_label_byte, are_distinct, ta
 use Rattle.pay_tool.specs.TableReading.{pieces, with_first, each_in, cell_in, row_in, rows_in, columns_if, columns_of_pieces, columns_in, rows_if, table_of_rows, table_below, table_in, scenarios_in}
 use Rattle.pay_tool.specs.TableLaws.{SpelledTableIsRead, OneTable}
 use Rattle.pay_dates.proofs.DayLemmas.{day_in-day_text}
+use Rattle.pay_fixed.proofs.AsSpelled.{spelled-raw}
 use Rattle.pay_tool.proofs.ByteLemmas.{Lacks, number-of_nothing, number-lacks_comma, number-lacks_end, day-lacks_comma, day-lacks_end}
 use Rattle.pay_tool.proofs.PieceLemmas.{pieces-lacks, pieces-cut, pieces-some}
 
@@ -33,11 +34,11 @@ label-lacks mark out label h = label-bytes mark out label (and_parts _ _ h).1
 
 cell-lacks_comma : (bytes : List ℕ) (cell : Option ℤ) → SpellsCell bytes cell → Lacks 44 bytes
 cell-lacks_comma bytes cell SpellsCell.empty_cell = tt
-cell-lacks_comma bytes cell (SpellsCell.given_cell _ raw e fits) = number-lacks_comma bytes raw e
+cell-lacks_comma bytes cell (SpellsCell.given_cell _ raw is fits) = number-lacks_comma bytes raw (spelled-raw bytes raw is)
 
 cell-lacks_end : (bytes : List ℕ) (cell : Option ℤ) → SpellsCell bytes cell → Lacks 10 bytes
 cell-lacks_end bytes cell SpellsCell.empty_cell = tt
-cell-lacks_end bytes cell (SpellsCell.given_cell _ raw e fits) = number-lacks_end bytes raw e
+cell-lacks_end bytes cell (SpellsCell.given_cell _ raw is fits) = number-lacks_end bytes raw (spelled-raw bytes raw is)
 
 cells-lack_end : (bytes : List ℕ) (cells : List (Option ℤ)) → SpellsCells bytes cells → Lacks 10 bytes
 cells-lack_end bytes cells SpellsCells.no_cell = tt
@@ -49,8 +50,8 @@ dates-lack_end bytes dates (SpellsDates.next_date rest date others is more) = (r
 
 cell-read : (bytes : List ℕ) (cell : Option ℤ) → SpellsCell bytes cell → cell_in bytes ≡ Some cell
 cell-read bytes cell SpellsCell.empty_cell = refl
-cell-read bytes cell (SpellsCell.given_cell [] raw e fits) = absurd (number-of_nothing raw e)
-cell-read bytes cell (SpellsCell.given_cell (byte ∷ rest) raw e fits) = rw (e, fits) refl
+cell-read bytes cell (SpellsCell.given_cell [] raw is fits) = absurd (number-of_nothing raw (spelled-raw [] raw is))
+cell-read bytes cell (SpellsCell.given_cell (byte ∷ rest) raw is fits) = rw (spelled-raw (byte ∷ rest) raw is, fits) refl
 
 -- behind a label, the pieces are the cells' pieces
 cells-read : (bytes : List ℕ) (cells : List (Option ℤ)) → SpellsCells bytes cells → (front : List ℕ) → Lacks 44 front

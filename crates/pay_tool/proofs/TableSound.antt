@@ -15,6 +15,7 @@ use Rattle.pay_tool.specs.Tables.{Row, Table, is_label, is_fixing, are_distinct,
 use Rattle.pay_tool.specs.TableReading.{pieces, with_first, each_in, fixing_if, cell_in, full_if, row_if, row_of, row_in, rows_in, columns_if, columns_of_pieces, columns_in, rows_if, table_of_rows, table_below, scenarios_in}
 use Rattle.pay_tool.specs.TableLaws.{TableIsSpelled}
 use Rattle.pay_dates.proofs.DayLemmas.{day_text-day_in}
+use Rattle.pay_fixed.proofs.AsSpelled.{raw-spelled}
 use Rattle.pay_tool.proofs.PieceLemmas.{pieces-first, behind, joined, joined-pieces, behind-joined}
 
 with_first-some : {A : Type 0} (x : Option A) (xs : Option (List A)) (all : List A) → with_first x xs ≡ Some all
@@ -33,7 +34,7 @@ cell-spelled : (piece : List ℕ) (cell : Option ℤ) → cell_in piece ≡ Some
 cell-spelled [] cell e = subst (SpellsCell []) (same_Some _ _ e) SpellsCell.empty_cell
 cell-spelled (byte ∷ rest) cell e =
     let p = fixing_if-some (decimal_in (byte ∷ rest)) cell e in
-    subst (SpellsCell (byte ∷ rest)) p.1.2 (SpellsCell.given_cell (byte ∷ rest) p.0 p.1.0 p.1.1)
+    subst (SpellsCell (byte ∷ rest)) p.1.2 (SpellsCell.given_cell (byte ∷ rest) p.0 (raw-spelled (byte ∷ rest) p.0 p.1.0) p.1.1)
 
 cells-spelled : (ps : List (List ℕ)) (cells : List (Option ℤ)) → each_in cell_in ps ≡ Some cells → SpellsCells (behind 44 ps) cells
 cells-spelled [] cells e = subst (SpellsCells []) (same_Some _ _ e) SpellsCells.no_cell

@@ -1,7 +1,7 @@
 -- The grammar of scripts: which tokens spell which number, statement, item and script, over all ways to cut the tokens.
-use Rattle.std.specs.Prelude.{◌≡◌, ℕ, ℤ, List, [], ◌∷◌, ◌++◌, Ok}
+use Rattle.std.specs.Prelude.{ℕ, ℤ, List, [], ◌∷◌, ◌++◌}
 use Rattle.pay_dates.specs.declared.day.Day.{Day}
-use Rattle.pay_fixed.specs.Decimal.{decimal_in}
+use Rattle.pay_fixed.specs.Grammar.{SpellsRaw}
 use Rattle.pay_meaning.specs.Language.{add, subtract, Number, literal, variable, spot, binary, Statement, assign, pay, Body, done, and_then, Item, plain, Script}
 use Rattle.pay_tree.specs.Names.{IsName}
 use Rattle.pay_tool.specs.declared.token.Key.TheVariants as key
@@ -9,9 +9,9 @@ use Rattle.pay_tool.specs.declared.token.Sign.TheVariants as sign
 use Rattle.pay_tool.specs.declared.token.Token.{Token}
 use Rattle.pay_tool.specs.declared.token.Token.TheVariants as token
 
--- a number token with a value, a name, or `spot()`
+-- a number token that spells a raw, a name, or `spot()`
 pub data SpellsAtom : List Token → Number → Type 0 where
-  of_literal : (digits : List ℕ) (raw : ℤ) → decimal_in digits ≡ Ok raw → SpellsAtom (token.Number digits ∷ []) (literal raw)
+  of_literal : (digits : List ℕ) (raw : ℤ) → SpellsRaw digits raw → SpellsAtom (token.Number digits ∷ []) (literal raw)
   of_variable : (name : List ℕ) → IsName name → SpellsAtom (token.Word name ∷ []) (variable name)
   of_spot : SpellsAtom (token.Key key.Spot ∷ token.Sign sign.ParenLeft ∷ token.Sign sign.ParenRight ∷ []) spot
 

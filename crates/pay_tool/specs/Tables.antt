@@ -1,10 +1,10 @@
 -- The plain table of scenarios: which bytes spell which table.
-use Rattle.std.specs.Prelude.{◌≡◌, ℕ, ◌≤◌, All, nat_le, nat_eq, codes, Bool, true, not, ◌&&◌, ◌||◌, IsTrue, ℤ, unsigned_abs, List, [], ◌∷◌, ◌++◌, length, Option, Some, None, Ok}
+use Rattle.std.specs.Prelude.{◌≡◌, ℕ, ◌≤◌, All, nat_le, nat_eq, codes, Bool, true, not, ◌&&◌, ◌||◌, IsTrue, ℤ, unsigned_abs, List, [], ◌∷◌, ◌++◌, length, Option, Some, None}
 use Rattle.std.specs.List.{list_any, list_all}
 use Rattle.std.specs.Ordering.{int_eq}
 use Rattle.pay_dates.specs.Days.{IsDay, day_text, day_number}
 use Rattle.pay_dates.specs.declared.day.Day.{Day}
-use Rattle.pay_fixed.specs.Decimal.{decimal_in}
+use Rattle.pay_fixed.specs.Grammar.{SpellsRaw}
 use Rattle.pay_tree.specs.Names.{is_digit, is_letter}
 
 -- a scenario: its label, and a raw or nothing for each date
@@ -33,10 +33,10 @@ is_label bytes = nat_le 1 (length bytes) && nat_le (length bytes) 64 && list_all
 abbrev pub is_fixing : ℤ → Bool
 is_fixing raw = nat_le (unsigned_abs raw) 1_000_000_000_000_000
 
--- no bytes are an empty cell, and a decimal that can be a fixing is its raw
+-- no bytes are an empty cell, and bytes that spell a raw that can be a fixing are that raw
 pub data SpellsCell : List ℕ → Option ℤ → Type 0 where
   empty_cell : SpellsCell [] None
-  given_cell : (bytes : List ℕ) (raw : ℤ) → decimal_in bytes ≡ Ok raw → IsTrue (is_fixing raw) → SpellsCell bytes (Some raw)
+  given_cell : (bytes : List ℕ) (raw : ℤ) → SpellsRaw bytes raw → IsTrue (is_fixing raw) → SpellsCell bytes (Some raw)
 
 -- cells, a comma before each
 pub data SpellsCells : List ℕ → List (Option ℤ) → Type 0 where
