@@ -19,7 +19,7 @@ use std::alloc::Global;
 ///
 /// `run SCRIPT SCENARIOS` fetches and checks the script file (at most 1,048,576 bytes) and then the scenario file (at
 /// most 67,108,864 bytes). Then it puts a header, for each scenario the payments that the script makes in it, and a
-/// last line. Nothing is put before both files are accepted, and nothing is fetched after the first that isn't.
+/// last line. Nothing is put before both files are accepted.
 ///
 /// The status is 0 where the report was put whole, 2 exactly where the words are no request, 3 where a file is refused, 4
 /// where a file is not there or a fetch failed, 5 where a put failed, and 6 where there was no memory. No file is
@@ -66,7 +66,7 @@ pub fn run_tool<D: Depot, O: Sink, E: Sink>(
     ensures files { D.files depot.new ≡ D.files depot.old }
     ensures err { err.new ≡ err.old }
 
-    // Nothing is fetched after the first input that isn't accepted.
+    // No more is fetched than the inputs up to the first that isn't accepted may take.
     ensures fetches { D.fetches depot.new ≤ D.fetches depot.old + most_fetches (asked_in words.now) (D.files depot.old) }
 
     // Where nothing stands in the way, the answer is given.
