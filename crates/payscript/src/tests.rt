@@ -1,7 +1,7 @@
 //! Runs of the whole tool over files and sinks in memory. Expected reports are worked by hand.
 
 use pay_edge::{MemoryDepot, MemorySink, NoMemory};
-use pay_tool::{Request, request_of_words, run_tool};
+use pay_tool::{Request, WordsFault, request_of_words, run_tool};
 use std::alloc::{AllocError, Global};
 use std::process::Abort;
 use std::test::Fail;
@@ -70,11 +70,14 @@ const REFUSED: [(&str, &str); 6] = [
 ];
 
 // Words, and the status that they end with where the depot has a script `s.pay` and a table `t.csv`.
-const WORDS: [(&[&str], u8); 9] = [
+const WORDS: [(&[&str], u8); 12] = [
     (&["run", "s.pay", "t.csv"], 0),
     (&[], 2),
     (&["run", "s.pay"], 2),
+    (&["run", "s.pay", "t.csv", "t.csv"], 2),
+    (&["run", "", "t.csv"], 2),
     (&["run", "s.pay", ""], 2),
+    (&["run", "s.pay", "--"], 2),
     (&["Run", "s.pay", "t.csv"], 2),
     (&["run", "--state", "t.csv"], 2),
     (&["run", "t.csv", "absent"], 3),
@@ -82,15 +85,18 @@ const WORDS: [(&[&str], u8); 9] = [
     (&["run", "s.pay", "absent"], 4),
 ];
 
-// A put that fails, and the pieces before it: the header, the lines of each scenario that has lines, the last line.
-const PIECES: [(u64, &str); 4] = [
-    (1, ""),
-    (2, "scenario,date,leg,amount\n"),
-    (3, "scenario,date,leg,amount\nup,2024-06-28,opt,12.5\n"),
+// A put that fails, the status, and the pieces before it: the header, the lines of each scenario that has lines, the
+// last line.
+const PIECES: [(u64, u8, &str); 5] = [
+    (1, 5, ""),
+    (2, 5, "scenario,date,leg,amount\n"),
+    (3, 5, "scenario,date,leg,amount\nup,2024-06-28,opt,12.5\n"),
     (
         4,
+        5,
         "scenario,date,leg,amount\nup,2024-06-28,opt,12.5\ndown,2024-06-28,opt,-10\n",
     ),
+    (5, 0, REPORT),
 ];
 
 // Words as a command line has them.
@@ -158,6 +164,8 @@ fn words_give_a_request(rt: HostRuntime) -> Result<(), Fail> {
     let Request::Run(names) = request_of_words(alloc, &words)?;
     assert_eq!(rt; names.script.as_str(), "s.pay");
     assert_eq!(rt; names.scenarios.as_str(), "t.csv");
+    let none = request_of_words(alloc, &words_of(alloc, &["run"])?);
+    assert!(rt; none.err() == Some(WordsFault::NotRequest));
     Ok(())
 }
 
@@ -190,14 +198,24 @@ fn a_failing_fetch_puts_nothing(rt: HostRuntime) -> Result<(), Fail> {
     Ok(())
 }
 
+// The third fetch would be the first of the table: it isn't made behind a script that is refused.
+#[test]
+fn a_refused_script_ends_the_fetches(rt: HostRuntime) -> Result<(), Fail> {
+    let alloc = rt.alloc();
+    let mut depot = depot_with(alloc, b"no script", TABLE.as_bytes())?;
+    depot.fail_fetch(3)?;
+    let mut out = MemorySink::new(alloc, ROOM)?;
+    ends(&rt, alloc, &mut depot, &mut out, 3, "")
+}
+
 #[test]
 fn a_failing_put_leaves_the_pieces_before_it(rt: HostRuntime) -> Result<(), Fail> {
     let alloc = rt.alloc();
-    for (call, text) in PIECES {
+    for (call, status, text) in PIECES {
         let mut depot = depot_with(alloc, SCRIPT.as_bytes(), TABLE.as_bytes())?;
         let mut out = MemorySink::new(alloc, ROOM)?;
         out.fail_put(call)?;
-        ends(&rt, alloc, &mut depot, &mut out, 5, text)?;
+        ends(&rt, alloc, &mut depot, &mut out, status, text)?;
     }
     Ok(())
 }
