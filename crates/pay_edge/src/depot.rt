@@ -45,6 +45,17 @@ impl From<NoMemory> for FetchFault {
     }
 }
 
+impl From<AllocError> for FetchFault {
+    ghost use Rattle.std.specs.Prelude.{◌≡◌};
+    ghost use Rattle.pay_edge.specs.declared.depot.FetchFault.{FetchFault};
+
+    ghost from_gives = { λ _ fault. fault ≡ FetchFault.NoMemory };
+
+    fn from(_: AllocError) -> FetchFault {
+        FetchFault::NoMemory
+    }
+}
+
 /// Why a file was not replaced.
 #[derive(Clone, Copy, Debug, PartialEq, Eq)]
 pub enum ReplaceFault {

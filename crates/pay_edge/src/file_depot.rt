@@ -5,7 +5,7 @@ ghost use Rattle.std.specs.Io.KnownBytes.{Consumes, IsAtEnd};
 ghost use Rattle.pay_edge.specs.Edge.{Rose, one_more, OnlyRead, SameBut};
 ghost use Rattle.pay_edge.specs.Outside.{no_files, file_read_faults, file_write_faults, file_fetches};
 
-use crate::depot::{Depot, FetchFault, NoMemory, ReplaceFault};
+use crate::depot::{Depot, FetchFault, ReplaceFault};
 use crate::kept::put_first;
 use crate::sink::Failed;
 use crate::stream_sink::write_out;
@@ -70,19 +70,13 @@ impl<R: Files> Depot for FileDepot<R> {
     {
         self.fetches = self.fetches.saturating_add(1);
         // Room for a note of a failure is taken before the read.
-        let Ok(noted) = String::from_str(self.alloc, name) else {
-            return Err(FetchFault::NoMemory);
-        };
-        if self.failed.reserve(1).is_err() {
-            return Err(FetchFault::NoMemory);
-        }
+        let noted = String::from_str(self.alloc, name)?;
+        self.failed.reserve(1)?;
         if let Ok(count) = read_at(&self.runtime, name, at, into) {
             return Ok(count);
         }
-        match put_first(&mut self.failed, noted) {
-            Ok(()) => Err(FetchFault::Failed),
-            Err(NoMemory) => Err(FetchFault::NoMemory),
-        }
+        put_first(&mut self.failed, noted)?;
+        Err(FetchFault::Failed)
     }
 
     fn replace(&mut self, name: &str, bytes: &[u8]) -> Result<(), ReplaceFault>
@@ -109,11 +103,9 @@ impl<R: Files> Depot for FileDepot<R> {
 fn read_at<R: Files>(runtime: &R, name: &str, at: u64, into: &mut [u8]) -> Result<usize, Failed>
     ensures { IfOk result (λ count. count ≤ length into.old) }
 {
-    let Ok(mut file) = fs::File::open(runtime, name) else {
-        return Err(Failed);
-    };
-    if at != 0 && file.seek(SeekFrom::Start(at)).is_err() {
-        return Err(Failed);
+    let mut file = fs::File::open(runtime, name)?;
+    if at != 0 {
+        file.seek(SeekFrom::Start(at))?;
     }
     read_full(&mut file, into)
 }
@@ -126,10 +118,9 @@ fn read_full<F: Read>(stream: &mut F, into: &mut [u8]) -> Result<usize, Failed>
 {
     let mut count = 0;
     while count < into.len() {
-        match stream.read(&mut into[count..]) {
-            Ok(0) => break,
-            Ok(more) => count += more,
-            Err(_) => return Err(Failed),
+        match stream.read(&mut into[count..])? {
+            0 => break,
+            more => count += more,
         }
     }
     Ok(count)
@@ -137,9 +128,7 @@ fn read_full<F: Read>(stream: &mut F, into: &mut [u8]) -> Result<usize, Failed>
 
 /// Makes a file of these bytes, in the place of what was there.
 fn write_file<R: Files>(runtime: &R, name: &str, bytes: &[u8]) -> Result<(), Failed> {
-    let Ok(mut file) = fs::File::create(runtime, name) else {
-        return Err(Failed);
-    };
+    let mut file = fs::File::create(runtime, name)?;
     write_out(&mut file, bytes)
 }
 

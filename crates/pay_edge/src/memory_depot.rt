@@ -141,11 +141,7 @@ fn copy_from(file: &[u8], at: u64, into: &mut [u8]) -> usize
         return 0;
     }
     let rest = &file[at as usize..];
-    let count = if rest.len() < into.len() {
-        rest.len()
-    } else {
-        into.len()
-    };
+    let count = rest.len().min(into.len());
     into[..count].copy_from_slice(&rest[..count]);
     count
 }

@@ -139,4 +139,13 @@ mod tests {
         assert!(rt; sink.text() == b"123".as_slice());
         Ok(())
     }
+
+    #[test]
+    fn a_put_past_the_room_appends_nothing(rt: HostRuntime) -> Result<(), Fail> {
+        let mut sink = MemorySink::new(rt.alloc(), 3)?;
+        assert!(rt; sink.put(b"12") == Ok(()));
+        assert!(rt; sink.put(b"34") == Err(Failed));
+        assert!(rt; sink.text() == b"12".as_slice());
+        Ok(())
+    }
 }

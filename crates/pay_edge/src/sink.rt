@@ -4,9 +4,17 @@ ghost use Rattle.std.specs.Prelude.{◌≡◌, ℕ, ◌≤◌, List, [], is_some
 ghost use Rattle.std.specs.declared.option.Option.{Option};
 ghost use Rattle.pay_edge.specs.Edge.{Rose, appended, AppendsFront};
 
+use std::io;
+
 /// A write failed.
 #[derive(Clone, Copy, Debug, PartialEq, Eq)]
 pub struct Failed;
+
+impl From<io::Error> for Failed {
+    fn from(_: io::Error) -> Failed {
+        Failed
+    }
+}
 
 /// A place that takes bytes in order.
 ///

@@ -59,10 +59,8 @@ pub(crate) fn write_out<W: Write>(stream: &mut W, bytes: &[u8]) -> Result<(), Fa
     ensures begun { (n : ℕ) × Appends (W.contents stream.old) (W.contents stream.new) (take n bytes.now) }
 {
     write_each(stream, bytes)?;
-    match stream.flush() {
-        Ok(()) => Ok(()),
-        Err(_) => Err(Failed),
-    }
+    stream.flush()?;
+    Ok(())
 }
 
 /// Writes all bytes. A write that takes none of some bytes is a fault.
@@ -72,9 +70,9 @@ fn write_each<W: Write>(stream: &mut W, bytes: &[u8]) -> Result<(), Failed>
 {
     let mut written = 0;
     while written < bytes.len() {
-        match stream.write(&bytes[written..]) {
-            Ok(0) | Err(_) => return Err(Failed),
-            Ok(count) => written += count,
+        match stream.write(&bytes[written..])? {
+            0 => return Err(Failed),
+            count => written += count,
         }
     }
     Ok(())
@@ -111,6 +109,28 @@ mod tests {
             self.flushed = self.length;
             Ok(())
         }
+    }
+
+    // A stream that takes all bytes, and whose flush fails.
+    #[derive(Drop)]
+    struct Unflushed;
+
+    impl Write for Unflushed {
+        fn write(&mut self, buf: &[u8]) -> io::Result<usize> {
+            Ok(buf.len())
+        }
+
+        fn flush(&mut self) -> io::Result<()> {
+            Err(io::Error::from(io::ErrorKind::TimedOut))
+        }
+    }
+
+    #[test]
+    fn a_flush_that_fails_is_a_fault(rt: HostRuntime) -> Result<(), Fail> {
+        let mut sink = StreamSink::new(Unflushed);
+        assert!(rt; sink.put(b"hello") == Err(Failed));
+        assert!(rt; sink.faults == 1);
+        Ok(())
     }
 
     #[test]

@@ -8,5 +8,5 @@ loop-count-preserved g c =
     record {
       size = search rules;
       within = search rules;
-      bytes = gave_more _ _ _ _ _ _ _ _ kept.within c.in-Ok.ensures.bound.0 kept.bytes c.in-Ok.ensures.bytes.0;
+      bytes = gave_more _ _ _ _ _ _ _ _ kept.within c.in_ok-more.ensures.bound.0 kept.bytes c.in_ok-more.ensures.bytes.0;
     }

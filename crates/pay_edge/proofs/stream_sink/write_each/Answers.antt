@@ -7,8 +7,8 @@ loop-written-preserved g c =
     let bytes = c.args.bytes.now in
     let done = c.loop-written.written in
     let size = length-take (length bytes - done) (drop done bytes) in
-    let fits = c.in-Ok.ensures.bound in
+    let fits = c.in_ok-count.ensures.bound in
     record {
       within = omega arith;
-      begun = took_more _ _ _ bytes done c.in-Ok.count (omega arith) c.loop-written.invariant.begun c.in-Ok.ensures.bytes;
+      begun = took_more _ _ _ bytes done c.in_ok-count.count (omega arith) c.loop-written.invariant.begun c.in_ok-count.ensures.bytes;
     }
