@@ -10,6 +10,9 @@ use std::alloc::{AllocError, Global};
 use std::cmp::Ordering;
 use std::marker::Model;
 
+/// The most bytes that a name may have.
+const MOST_BYTES: usize = 64;
+
 /// A name of a variable or of a leg: 1 to 64 bytes, a lower-case letter or `_`, then such letters and digits, and no
 /// keyword of the language.
 ///
@@ -136,7 +139,7 @@ fn is_among(words: &[&[u8]], word: &[u8]) -> bool
 fn is_name(bytes: &[u8]) -> bool
     ensures { result ≡ is_name bytes.now }
 {
-    bytes.len() <= 64 && is_lower_word(bytes) && !is_keyword(bytes)
+    bytes.len() <= MOST_BYTES && is_lower_word(bytes) && !is_keyword(bytes)
 }
 
 impl Name {
