@@ -38,10 +38,8 @@ impl Day {
         if year < 1900 || year > 2199 || month > 12 || day > 31 {
             return None;
         }
-        match Date::new(year as i16, month as i8, day as i8) {
-            Ok(date) => Some(Day { date }),
-            Err(_) => None,
-        }
+        let date = Date::new(year as i16, month as i8, day as i8).ok()?;
+        Some(Day { date })
     }
 
     /// The year, from 1900 to 2199.

@@ -5,7 +5,7 @@ ghost use Rattle.pay_dates.specs.Days.{IsDay, day_in, day_text, has_form, two_at
 ghost use Rattle.pay_dates.specs.Parts.{has_two_digits};
 
 use crate::Day;
-use std::alloc::AllocError;
+use std::alloc::{AllocError, AllocFailed};
 
 /// There was no memory left; nothing was changed.
 #[derive(Clone, Copy, PartialEq, Eq, Debug)]
@@ -13,6 +13,12 @@ pub struct NoMemory;
 
 impl From<AllocError> for NoMemory {
     fn from(_: AllocError) -> NoMemory {
+        NoMemory
+    }
+}
+
+impl<T: Drop> From<AllocFailed<T>> for NoMemory {
+    fn from(_: AllocFailed<T>) -> NoMemory {
         NoMemory
     }
 }
@@ -69,6 +75,8 @@ fn digit(number: u8) -> u8
 }
 
 /// Appends the day's text `YYYY-MM-DD`, ten bytes.
+///
+/// # Errors
 ///
 /// [`NoMemory`] where `into` has no room for the ten bytes and gets none; then `into` is unchanged.
 pub fn write_day(day: Day, into: &mut Vec<u8>) -> Result<(), NoMemory>
