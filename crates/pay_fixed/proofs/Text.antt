@@ -13,7 +13,7 @@ use Rattle.pay_fixed.specs.declared.NumberFault.TheVariants.{TooLarge}
 use Rattle.pay_fixed.specs.Round.{scale, nearest, round, IsRaw}
 use Rattle.pay_fixed.specs.Grammar.{Decimal, AreDigits, number_on, number, signed, SpellsSign, no_sign, minus, SpellsFraction, no_fraction, point, no_exponent, SpellsDecimal, tens_up, tens_down, numerator, denominator, raw_of, IsExactly}
 use Rattle.pay_fixed.specs.Decimal.{four_digits, keep, without_zeros, sign_text, point_text, decimal_of, decimal_text}
-use Rattle.pay_fixed.specs.Laws.{DecimalReadsBack, DecimalIsShortest}
+use Rattle.pay_fixed.specs.Laws.{DecimalReadsBack, DecimalHasFewestPlaces}
 use Rattle.pay_fixed.proofs.Digits.{number_on-append, number_on-is}
 use Rattle.pay_fixed.proofs.Rounding.{neg-times-pos}
 use Rattle.pay_fixed.proofs.SpelledRead.{spelled-read}
@@ -225,5 +225,5 @@ fewest : (z : ℤ) (d : Decimal) → d.exponent ≡ pos 0 → IsExactly d z → 
 fewest z d plain h =
     fewest-digits (number (d.whole ++ d.fraction)) (unsigned_abs z) (length d.fraction) (rw plain at (abs-exact d z h))
 
-pub shortest : DecimalIsShortest
-shortest z h = record { spells = text-spells z h; exact = exact-text z h; fewest = fewest z }
+pub fewest-places : DecimalHasFewestPlaces
+fewest-places z h = record { spells = text-spells z h; exact = exact-text z h; fewest = fewest z }

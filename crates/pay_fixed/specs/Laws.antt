@@ -24,11 +24,11 @@ DecimalReadsBack = (z : ℤ) → IsRaw z → decimal_in (decimal_text z) ≡ Ok 
 
 -- the text of a number spells a decimal that is exactly this number, and no decimal without a power of ten
 -- that is exactly this number has fewer digits after the point
-pub record IsShortest (z : ℤ) : Type 0 where
+pub record HasFewestPlaces (z : ℤ) : Type 0 where
   pub spells : SpellsDecimal (decimal_text z) (decimal_of z)
   pub exact : IsExactly (decimal_of z) z
   pub fewest : (d : Decimal) → d.exponent ≡ pos 0 → IsExactly d z → length (decimal_of z).fraction ≤ length d.fraction
 
 -- every number is written with the fewest digits after the point
-abbrev pub DecimalIsShortest : Type 0
-DecimalIsShortest = (z : ℤ) → IsRaw z → IsShortest z
+abbrev pub DecimalHasFewestPlaces : Type 0
+DecimalHasFewestPlaces = (z : ℤ) → IsRaw z → HasFewestPlaces z

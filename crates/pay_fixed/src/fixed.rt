@@ -31,7 +31,7 @@ impl Model for Fixed {
 impl Fixed {
     /// The number whose raw is `raw`, a count of 1/10,000.
     ///
-    /// None exactly where `raw` lies beyond the limit.
+    /// `None` exactly where `raw` lies beyond the limit.
     pub fn from_raw(raw: i64) -> Option<Fixed>
         ensures within { IsSome result ↔ IsRaw raw }
         ensures same { IfSome result (λ number. number ≡ raw) }
@@ -53,30 +53,23 @@ impl Fixed {
 
     /// The sum of the two numbers, exactly.
     ///
+    /// # Errors
+    ///
     /// [`Arith::Overflow`] exactly where the sum lies beyond the limit.
     pub fn add(self, other: Fixed) -> Result<Fixed, Arith>
         ensures { result ≡ limited Arith.Overflow (self +ℤ other) }
     {
-        limited_to(self.raw + other.raw)
+        Fixed::from_raw(self.raw + other.raw).ok_or(Arith::Overflow)
     }
 
     /// This number less the other, exactly.
+    ///
+    /// # Errors
     ///
     /// [`Arith::Overflow`] exactly where the difference lies beyond the limit.
     pub fn sub(self, other: Fixed) -> Result<Fixed, Arith>
         ensures { result ≡ limited Arith.Overflow (self -ℤ other) }
     {
-        limited_to(self.raw - other.raw)
-    }
-}
-
-/// The number with this raw, if it lies within the limit.
-fn limited_to(raw: i64) -> Result<Fixed, Arith>
-    ensures { result ≡ limited Arith.Overflow raw }
-{
-    if raw.unsigned_abs() <= LIMIT {
-        Ok(Fixed { raw })
-    } else {
-        Err(Arith::Overflow)
+        Fixed::from_raw(self.raw - other.raw).ok_or(Arith::Overflow)
     }
 }

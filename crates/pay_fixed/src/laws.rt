@@ -2,7 +2,7 @@
 //! empty body; the function's clause is the law.
 
 ghost use Rattle.pay_fixed.specs.Round.{RoundIsNearest};
-ghost use Rattle.pay_fixed.specs.Laws.{DecimalIsSpelled, DecimalReadsBack, DecimalIsShortest};
+ghost use Rattle.pay_fixed.specs.Laws.{DecimalIsSpelled, DecimalReadsBack, DecimalHasFewestPlaces};
 
 /// `round` gives the nearest whole number, and of two that are as near the one farther from zero.
 pub fn round_is_nearest()
@@ -20,8 +20,8 @@ pub fn decimal_reads_back()
     ensures { DecimalReadsBack }
 {}
 
-/// The text that is written for a number spells exactly this number, and no text without a power of ten that spells
-/// exactly this number has fewer digits after the point.
-pub fn decimal_is_shortest()
-    ensures { DecimalIsShortest }
+/// The text of a number spells exactly that number, and no decimal without a power of ten that is exactly this number
+/// has fewer digits after the point.
+pub fn decimal_has_fewest_places()
+    ensures { DecimalHasFewestPlaces }
 {}

@@ -30,6 +30,8 @@ struct Parts<'a> {
 /// a sign or none, digits, perhaps a point and digits, perhaps `e` or `E`, a sign or none and one or two digits.
 /// Its exact value is rounded once to four places, a half away from zero (IEEE 754's `roundTiesToAway`).
 ///
+/// # Errors
+///
 /// [`NumberFault::NotNumber`] where the text has another form, [`NumberFault::TooLarge`] where it has this form and
 /// the rounded value lies beyond the limit.
 #[tactic(auto, unfolding(crate::specs::Decimal::decimal_in))]
@@ -169,11 +171,11 @@ fn rounded(parts: Parts) -> Result<Fixed, NumberFault>
 {
     let count = places(parts.whole.len(), parts.exponent);
     let tenths = first_digits(parts.whole, parts.fraction, count);
-    limited_to(parts.negative, (tenths + 5) / 10)
+    signed_number(parts.negative, (tenths + 5) / 10)
 }
 
 /// The number of this sign and magnitude, if it lies within the limit.
-fn limited_to(negative: bool, magnitude: u64) -> Result<Fixed, NumberFault>
+fn signed_number(negative: bool, magnitude: u64) -> Result<Fixed, NumberFault>
     requires { magnitude < 2 ^ 63 }
     ensures { result ≡ limited NumberFault.TooLarge (signed negative magnitude) }
 {

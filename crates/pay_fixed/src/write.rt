@@ -10,6 +10,8 @@ use std::alloc::AllocError;
 impl Fixed {
     /// Appends the number in decimal, with as few digits after the point as give its value: `12.5`, `0`, `-0.0001`.
     ///
+    /// # Errors
+    ///
     /// [`NoMemory`] where `into` has no room for all of it and gets none; then `into` is unchanged.
     pub fn write_decimal(self, into: &mut Vec<u8>) -> Result<(), NoMemory>
         ensures ok { OnOk result (into.new.items ≡ into.old.items ++ decimal_text self) }

@@ -10,4 +10,4 @@ pub returns : goal.returns
 returns c =
     let fits : FitsSigned w32 c.args.parts.exponent = search rules in
     read-value TooLarge (reading c.args.parts).decimal _ _ _ c.requires.0 c.requires.1
-    (simp to_z-of_z at c.places-count.ensures) c.first_digits-tenths.ensures c.limited_to.ensures
+    (simp to_z-of_z at c.places-count.ensures) c.first_digits-tenths.ensures c.signed_number.ensures
