@@ -35,7 +35,11 @@ fn place_at(places: &BTreeMap<i32, usize>, date: Day) -> Option<usize>
 
 /// The column of each event's date among the dates of a table, if it has one.
 ///
-/// [`NoMemory`] where there is no room for them. The time is that of one look-up in a map for each date and each event.
+/// The time is that of one look-up in a map for each date and each event.
+///
+/// # Errors
+///
+/// [`NoMemory`] where there was no memory for the columns.
 pub fn columns_of_events(
     alloc: Global,
     events: &[NamedEvent],

@@ -14,7 +14,11 @@ use pay_fixed::NoMemory;
 use pay_tree::{Item, NamedEvent, Script};
 use std::alloc::Global;
 
-/// The events of a script in order of date. A date that two of them share is refused, the earliest one.
+/// The events of a script in order of date.
+///
+/// # Errors
+///
+/// `Refused(SameDate)` with the earliest date that two of them share, `NoMemory` where there was no memory for them.
 pub fn events_in_order(alloc: Global, tree: Script) -> Result<Vec<NamedEvent>, CheckStop>
     ensures accepted { IfOk result (λ events. ordered (script tree) ≡ good (map event events.items)) }
     ensures refused { IfErr result (Stops (ordered (script tree))) }

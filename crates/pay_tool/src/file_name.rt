@@ -43,10 +43,8 @@ impl FileName {
         if !is_name(word.as_bytes()) {
             return Err(WordsFault::NotRequest);
         }
-        match String::from_str(alloc, word) {
-            Ok(text) => Ok(FileName { text }),
-            Err(_) => Err(WordsFault::NoMemory),
-        }
+        let text = String::from_str(alloc, word)?;
+        Ok(FileName { text })
     }
 
     /// The name as text.

@@ -189,10 +189,7 @@ fn day_at(text: &[u8]) -> Option<Day>
     ensures value { result ≡ day_at text.now }
     ensures within { IfSome result (λ _. 10 ≤ length text.now) }
 {
-    match text.first_chunk::<10>() {
-        Some(bytes) => read_day(bytes),
-        None => None,
-    }
+    read_day(text.first_chunk::<10>()?)
 }
 
 /// The number that begins with the digit `first`, before `rest`.
@@ -299,7 +296,10 @@ fn take_one<'a>(
 /// The tokens of a text, read from its front: at each place a blank is skipped, or the longest token there is taken.
 ///
 /// `text` is the bytes of a script, and the answer its tokens in their order, with words in lower case.
-/// The error is `NoToken` where some place has no blank and begins no token, and `NoMemory` where there was no memory for the tokens.
+///
+/// # Errors
+///
+/// `NoToken` where some place has no blank and begins no token, `NoMemory` where there was no memory for the tokens.
 #[tactic(auto, unfolding(crate::specs::Lexing::tokens_in))]
 pub fn lex(alloc: Global, text: &[u8]) -> Result<Vec<Token>, LexFault>
     ensures tokens { IfOk result (λ ts. tokens_in text.now ≡ Some ts.items) }

@@ -32,6 +32,10 @@ const MOST_VARIABLES: usize = 1_024;
 const MOST_LEGS: usize = 256;
 
 /// Whether a script and its tokens keep every limit.
+///
+/// # Errors
+///
+/// [`NoMemory`] where there was no memory for the names that are counted.
 #[tactic(auto, unfolding(crate::specs::Limits::is_within_limits))]
 pub fn is_within_limits(alloc: Global, tokens: &[Token], tree: &Script) -> Result<bool, NoMemory>
     ensures { IfOk result (λ within. within ≡ is_within_limits tokens.now (script tree.now)) }

@@ -76,9 +76,9 @@ fn step_literal(open: Open, head: Head, left: Left, digits: &Digits) -> Result<S
     ensures { Gives view.state result (reading.step_literal (view.opened «open») (view.head head) (view.left left) (decimal_in digits.now)) }
 {
     match read_decimal(digits.bytes()) {
-        Ok(raw) => Ok(State::Inside(
+        Ok(number) => Ok(State::Inside(
             open,
-            Place::InNumber(head, Mode::After(left, Expr::Number(raw))),
+            Place::InNumber(head, Mode::After(left, Expr::Number(number))),
         )),
         Err(_) => Err(ParseFault::NotScript),
     }

@@ -24,6 +24,7 @@ pub enum Head {
 /// What stands left of an atom in its number.
 #[derive(Drop)]
 pub enum Left {
+    /// Nothing: the atom is the first.
     Nothing,
     /// A number and `+`.
     Plus(Expr),
@@ -58,8 +59,11 @@ pub enum Place {
 /// The item that is being read, with the items before it.
 #[derive(Drop)]
 pub struct Open {
+    /// The items before it.
     pub items: Vec<Item>,
+    /// Its date.
     pub date: Day,
+    /// Its statements so far.
     pub body: Vec<Stmt>,
 }
 
@@ -73,7 +77,7 @@ pub enum State {
 }
 
 /// The number of two numbers under an operator.
-pub fn binary(alloc: Global, operator: Binary, left: Expr, right: Expr) -> Result<Expr, ParseFault>
+fn binary(alloc: Global, operator: Binary, left: Expr, right: Expr) -> Result<Expr, ParseFault>
     ensures { Gives tree_of.number result (Some (calculated (tree_of.operator operator) (tree_of.number left) (tree_of.number right))) }
 {
     let left = Box::new(alloc, left)?;
@@ -82,6 +86,10 @@ pub fn binary(alloc: Global, operator: Binary, left: Expr, right: Expr) -> Resul
 }
 
 /// The number that an atom ends.
+///
+/// # Errors
+///
+/// `NoMemory` where there was no memory for the number.
 pub fn joined(alloc: Global, left: Left, atom: Expr) -> Result<Expr, ParseFault>
     ensures { Gives tree_of.number result (Some (reading.joined (view.left left) (tree_of.number atom))) }
 {
@@ -93,7 +101,7 @@ pub fn joined(alloc: Global, left: Left, atom: Expr) -> Result<Expr, ParseFault>
 }
 
 /// The statement that a number ends.
-pub fn headed(head: Head, value: Expr) -> Stmt
+fn headed(head: Head, value: Expr) -> Stmt
     ensures { tree_of.statement result ≡ reading.headed (view.head head) (tree_of.number value) }
 {
     match head {
@@ -104,7 +112,7 @@ pub fn headed(head: Head, value: Expr) -> Stmt
 
 /// What is open, with one more statement.
 #[tactic(auto, using(crate::proofs::BodyLemmas::body_push))]
-pub fn with_statement(mut open: Open, statement: Stmt) -> Result<Open, ParseFault>
+fn with_statement(mut open: Open, statement: Stmt) -> Result<Open, ParseFault>
     ensures { Gives view.opened result (Some (reading.with_statement (view.opened «open») (tree_of.statement statement))) }
 {
     open.body.push(statement)?;
@@ -112,6 +120,10 @@ pub fn with_statement(mut open: Open, statement: Stmt) -> Result<Open, ParseFaul
 }
 
 /// What is open, with the statement whose number an atom ends.
+///
+/// # Errors
+///
+/// `NoMemory` where there was no memory for the statement.
 pub fn with_number(
     alloc: Global,
     open: Open,
@@ -126,6 +138,10 @@ pub fn with_number(
 }
 
 /// The items, with the one that is open.
+///
+/// # Errors
+///
+/// `NoMemory` where there was no memory for one more item.
 pub fn closed(open: Open) -> Result<Vec<Item>, ParseFault>
     ensures { Gives view.items result (Some (reading.closed (view.opened «open»))) }
 {

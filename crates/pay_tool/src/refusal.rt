@@ -10,7 +10,10 @@ pub enum Refusal {
     /// The text is no script, or passes a limit of scripts.
     NotScript,
     /// Two events of the script have this date, and no earlier one is shared.
-    SameDate { date: Day },
+    SameDate {
+        /// The date.
+        date: Day,
+    },
     /// The text is no plain table.
     NotTable,
 }

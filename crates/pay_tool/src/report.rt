@@ -13,7 +13,7 @@ use pay_dates::{Day, write_day};
 use pay_fixed::{Fixed, NoMemory};
 use pay_meaning::FaultKind;
 
-/// Appends bytes; where there is no room, nothing.
+/// Appends bytes; where there is no room, perhaps a part of them.
 fn put_bytes(bytes: &[u8], into: &mut Vec<u8>) -> Result<(), NoMemory>
     ensures ok { OnOk result (into.new.items ≡ into.old.items ++ bytes.now) }
     ensures err { OnErr result ((more : List ℕ) × (into.new.items ≡ into.old.items ++ more)) }
@@ -22,7 +22,7 @@ fn put_bytes(bytes: &[u8], into: &mut Vec<u8>) -> Result<(), NoMemory>
     Ok(())
 }
 
-/// Appends a byte; where there is no room, nothing.
+/// Appends a byte; where there is no room, perhaps a part of it.
 fn put_byte(byte: u8, into: &mut Vec<u8>) -> Result<(), NoMemory>
     ensures ok { OnOk result (into.new.items ≡ into.old.items ++ byte ∷ []) }
     ensures err { OnErr result ((more : List ℕ) × (into.new.items ≡ into.old.items ++ more)) }
@@ -31,7 +31,7 @@ fn put_byte(byte: u8, into: &mut Vec<u8>) -> Result<(), NoMemory>
     Ok(())
 }
 
-/// Appends a date; where there is no room, nothing.
+/// Appends a date; where there is no room, perhaps a part of it.
 fn put_day(date: Day, into: &mut Vec<u8>) -> Result<(), NoMemory>
     ensures ok { OnOk result (into.new.items ≡ into.old.items ++ day_text date) }
     ensures err { OnErr result ((more : List ℕ) × (into.new.items ≡ into.old.items ++ more)) }
@@ -42,7 +42,7 @@ fn put_day(date: Day, into: &mut Vec<u8>) -> Result<(), NoMemory>
     }
 }
 
-/// Appends an amount; where there is no room, nothing.
+/// Appends an amount; where there is no room, perhaps a part of it.
 fn put_amount(amount: Fixed, into: &mut Vec<u8>) -> Result<(), NoMemory>
     ensures ok { OnOk result (into.new.items ≡ into.old.items ++ decimal_text amount) }
     ensures err { OnErr result ((more : List ℕ) × (into.new.items ≡ into.old.items ++ more)) }
@@ -50,7 +50,7 @@ fn put_amount(amount: Fixed, into: &mut Vec<u8>) -> Result<(), NoMemory>
     amount.write_decimal(into)
 }
 
-/// Appends the first two fields of a line, a comma behind each.
+/// Appends the first two fields of a line, a comma behind each; where there is no room, perhaps a part of them.
 #[tactic(auto, using(std::proofs::Common::append_assoc))]
 fn put_start(label: &[u8], date: Day, into: &mut Vec<u8>) -> Result<(), NoMemory>
     ensures ok { OnOk result (into.new.items ≡ into.old.items ++ (label.now ++ (44 ∷ (day_text date ++ 44 ∷ [])))) }
@@ -62,7 +62,8 @@ fn put_start(label: &[u8], date: Day, into: &mut Vec<u8>) -> Result<(), NoMemory
     put_byte(b',', into)
 }
 
-/// Appends the last two fields of a payment's line, and the end of the line.
+/// Appends the last two fields of a payment's line, and the end of the line; where there is no room, perhaps a part of
+/// them.
 #[tactic(auto, using(std::proofs::Common::append_assoc))]
 fn put_paid(leg: &[u8], amount: Fixed, into: &mut Vec<u8>) -> Result<(), NoMemory>
     ensures ok { OnOk result (into.new.items ≡ into.old.items ++ (leg.now ++ (44 ∷ (decimal_text amount ++ 10 ∷ [])))) }
@@ -107,7 +108,7 @@ fn fault_text(kind: FaultKind) -> &'static [u8]
     }
 }
 
-/// Appends the line of a fault, if a run ended by one.
+/// Appends the line of a fault, if a run ended by one; where there is no room, perhaps a part of it.
 #[tactic(auto, using(std::proofs::Common::append_assoc))]
 fn put_end(label: &[u8], end: End, into: &mut Vec<u8>) -> Result<(), NoMemory>
     ensures ok { OnOk result (into.new.items ≡ into.old.items ++ end_text label.now end) }
@@ -125,7 +126,9 @@ fn put_end(label: &[u8], end: End, into: &mut Vec<u8>) -> Result<(), NoMemory>
 
 /// Appends the lines of a run: its payments in order, and then its fault if it ended by one.
 ///
-/// [`NoMemory`] where there is no room; then `into` has perhaps a part of the lines.
+/// # Errors
+///
+/// [`NoMemory`] where there was no room for the lines; then `into` has perhaps a part of them.
 #[tactic(auto, using(std::proofs::Common::append_assoc))]
 pub fn put_run(label: &[u8], run: &Run<'_>, into: &mut Vec<u8>) -> Result<(), NoMemory>
     ensures ok { OnOk result (into.new.items ≡ into.old.items ++ (payment_lines label.now (map payment run.now.payments.items) ++ end_text label.now run.now.end)) }

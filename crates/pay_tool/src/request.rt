@@ -5,7 +5,7 @@ ghost use Rattle.pay_tool.specs.Requests.{request_of, asked_in};
 ghost use Rattle.pay_tool.specs.RequestViews.{asked_by, StopsWords};
 
 use crate::file_name::{FileName, is_name};
-use std::alloc::Global;
+use std::alloc::{AllocError, Global};
 
 /// A command with the files that it names.
 #[derive(Drop)]
@@ -30,6 +30,17 @@ pub enum WordsFault {
     NotRequest,
     /// There was no memory for the names.
     NoMemory,
+}
+
+impl From<AllocError> for WordsFault {
+    ghost use Rattle.std.specs.Prelude.{◌≡◌};
+    ghost use Rattle.pay_tool.specs.declared.request.WordsFault.{WordsFault};
+
+    ghost from_gives = { λ _ fault. fault ≡ WordsFault.NoMemory };
+
+    fn from(_: AllocError) -> WordsFault {
+        WordsFault::NoMemory
+    }
 }
 
 /// The request of the words behind a program's name: `run`, a script file and a scenario file.

@@ -17,7 +17,9 @@ use std::alloc::Global;
 
 /// Appends the lines of one scenario to `into`: what its events pay, in order, and then its fault if it has one.
 ///
-/// [`NoMemory`] where there is no room; then `into` is as before.
+/// # Errors
+///
+/// [`NoMemory`] where there was no memory for the run, or no room for its lines; then `into` is as before.
 pub fn write_row_lines(
     alloc: Global,
     events: &[NamedEvent],

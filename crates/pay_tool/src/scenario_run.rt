@@ -82,6 +82,10 @@ fn run_event<'a>(
 }
 
 /// Runs events in their order, from no variables, until one faults.
+///
+/// # Errors
+///
+/// [`NoMemory`] where there was no memory for the variables or the payments.
 pub fn run_events<'a>(
     alloc: Global,
     events: &'a [NamedEvent],

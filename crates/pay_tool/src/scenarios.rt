@@ -7,8 +7,11 @@ ghost use Rattle.pay_tool.specs.Tables.{is_capital, is_label, is_label_byte};
 
 use pay_dates::Day;
 use pay_fixed::Fixed;
-use std::alloc::Global;
+use std::alloc::{AllocError, Global};
 use std::marker::Model;
+
+/// The most bytes of a label.
+const MOST_LABEL_BYTES: usize = 64;
 
 /// The label of a scenario: 1 to 64 letters, digits, `_`, `.` and `-`.
 #[derive(Drop)]
@@ -34,6 +37,17 @@ pub enum LabelFault {
     NotLabel,
     /// There was no memory for the label.
     NoMemory,
+}
+
+impl From<AllocError> for LabelFault {
+    ghost use Rattle.std.specs.Prelude.{◌≡◌};
+    ghost use Rattle.pay_tool.specs.declared.scenarios.LabelFault.{LabelFault};
+
+    ghost from_gives = { λ _ fault. fault ≡ LabelFault.NoMemory };
+
+    fn from(_: AllocError) -> LabelFault {
+        LabelFault::NoMemory
+    }
 }
 
 /// Whether the byte is an ASCII letter or `_`.
@@ -62,7 +76,7 @@ fn are_label_bytes(bytes: &[u8]) -> bool
 fn is_label(bytes: &[u8]) -> bool
     ensures { result ≡ is_label bytes.now }
 {
-    1 <= bytes.len() && bytes.len() <= 64 && are_label_bytes(bytes)
+    1 <= bytes.len() && bytes.len() <= MOST_LABEL_BYTES && are_label_bytes(bytes)
 }
 
 impl Label {
@@ -71,8 +85,10 @@ impl Label {
 
     /// The label with these bytes.
     ///
-    /// `NotLabel` where they are not 1 to 64 letters, digits, `_`, `.` and `-`; `NoMemory` where
-    /// there is no memory for a copy of them.
+    /// # Errors
+    ///
+    /// `NotLabel` exactly where they are not 1 to 64 letters, digits, `_`, `.` and `-`, `NoMemory` where they are and
+    /// there was no memory for a copy of them.
     pub fn read(alloc: Global, bytes: &[u8]) -> Result<Label, LabelFault>
         ensures read { IfOk result (λ label. label ≡ bytes.now) }
         ensures label { OnOk result (IsTrue (is_label bytes.now)) }
@@ -82,10 +98,8 @@ impl Label {
         if !is_label(bytes) {
             return Err(LabelFault::NotLabel);
         }
-        match Vec::from_slice(alloc, bytes) {
-            Ok(copy) => Ok(Label { bytes: copy }),
-            Err(_) => Err(LabelFault::NoMemory),
-        }
+        let bytes = Vec::from_slice(alloc, bytes)?;
+        Ok(Label { bytes })
     }
 
     /// The bytes of the label.
@@ -100,13 +114,17 @@ impl Label {
 /// A scenario: its label, and a fixing or nothing for each date.
 #[derive(Drop)]
 pub struct ScenarioRow {
+    /// The label.
     pub label: Label,
+    /// The cells, one for each date of the table in its order.
     pub cells: Vec<Option<Fixed>>,
 }
 
 /// A table of scenarios: the dates of its columns, and its rows in the order of the file.
 #[derive(Drop)]
 pub struct Scenarios {
+    /// The dates of the columns.
     pub dates: Vec<Day>,
+    /// The rows, one for each scenario.
     pub rows: Vec<ScenarioRow>,
 }

@@ -1,15 +1,15 @@
 //! A plain table of scenarios, read from its text.
 
-ghost use Rattle.std.specs.Prelude.{◌≡◌, ◌≢◌, ◌∷◌, ◌<◌, ◌≤◌, ℕ, IfErr, IfOk, IfSome, IsErrOf, IsTrue, OnOk, false, Some, None, length, map, slice_index};
+ghost use Rattle.std.specs.Prelude.{◌≡◌, ◌≢◌, ◌∷◌, ◌<◌, ◌≤◌, ℕ, IfOk, IfSome, IsErrOf, Some, None, length, map, slice_index};
 ghost use Rattle.std.specs.Option.{option_copied};
 ghost use Rattle.pay_dates.specs.Days.{day_in};
-ghost use Rattle.pay_tool.specs.Tables.{IsGood, are_distinct, is_fixing, is_label};
+ghost use Rattle.pay_tool.specs.Tables.{IsGood, are_distinct, is_fixing};
 ghost use Rattle.pay_tool.specs.TableReading.{cell_in, columns_if, columns_in, each_in, full_if, pieces, pieces_if, row_in, rows_if, rows_in, scenarios_in};
 ghost use Rattle.pay_tool.specs.TableViews.{row, table};
 
 use crate::scenarios::{Label, LabelFault, ScenarioRow, Scenarios};
 use pay_dates::{Day, read_day};
-use pay_fixed::{Fixed, read_decimal};
+use pay_fixed::{Fixed, NoMemory, read_decimal};
 use std::alloc::{AllocError, AllocFailed, Global};
 use std::collections::BTreeSet;
 
@@ -44,6 +44,17 @@ impl<T: Drop> From<AllocFailed<T>> for TableRefusal {
     }
 }
 
+impl From<NoMemory> for TableRefusal {
+    ghost use Rattle.std.specs.Prelude.{◌≡◌};
+    ghost use Rattle.pay_tool.specs.declared.table_reader.TableRefusal.{TableRefusal};
+
+    ghost from_gives = { λ _ refusal. refusal ≡ TableRefusal.NoMemory };
+
+    fn from(_: NoMemory) -> TableRefusal {
+        TableRefusal::NoMemory
+    }
+}
+
 impl From<LabelFault> for TableRefusal {
     ghost use Rattle.std.specs.Prelude.{◌≡◌};
     ghost use Rattle.pay_tool.specs.TableViews.{refusal_of_label};
@@ -63,6 +74,9 @@ const MOST_DATES: usize = 4096;
 
 /// The greatest number of rows.
 const MOST_ROWS: usize = 100_000;
+
+/// The greatest magnitude of a fixing, in raws of 1/10,000.
+const MOST_FIXING: u64 = 1_000_000_000_000_000;
 
 /// The place of the first mark in a text, or the text's length where there is none.
 fn mark_at(text: &[u8], mark: u8) -> usize
@@ -91,7 +105,7 @@ fn first_piece(text: &[u8], mark: u8) -> (&[u8], Option<&[u8]>)
 fn is_fixing(number: Fixed) -> bool
     ensures { result ≡ is_fixing number }
 {
-    number.raw().unsigned_abs() <= 1_000_000_000_000_000
+    number.raw().unsigned_abs() <= MOST_FIXING
 }
 
 /// The cell of a piece: nothing in an empty one, and else a fixing.
@@ -102,16 +116,14 @@ fn read_cell(piece: &[u8]) -> Option<Option<Fixed>>
 {
     match piece {
         [] => Some(None),
-        [_, ..] => match read_decimal(piece) {
-            Ok(number) => {
-                if is_fixing(number) {
-                    Some(Some(number))
-                } else {
-                    None
-                }
+        [_, ..] => {
+            let number = read_decimal(piece).ok()?;
+            if is_fixing(number) {
+                Some(Some(number))
+            } else {
+                None
             }
-            Err(_) => None,
-        },
+        }
     }
 }
 
@@ -121,10 +133,7 @@ fn read_cell(piece: &[u8]) -> Option<Option<Fixed>>
 fn read_date(piece: &[u8]) -> Option<Day>
     ensures { result ≡ day_in piece.now }
 {
-    match piece.as_array::<10>() {
-        Some(text) => read_day(text),
-        None => None,
-    }
+    read_day(piece.as_array::<10>()?)
 }
 
 /// The cells of a text's pieces, if there are as many as columns.
@@ -174,9 +183,8 @@ fn read_dates(alloc: Global, text: Option<&[u8]>) -> Result<Vec<Day>, TableRefus
 }
 
 /// Whether no two of the dates are one.
-fn are_distinct(alloc: Global, dates: &[Day]) -> Result<bool, TableRefusal>
-    ensures distinct { IfOk result (λ distinct. distinct ≡ are_distinct dates.now) }
-    ensures memory { IfErr result (λ e. e ≡ TableRefusal.NoMemory) }
+fn are_distinct(alloc: Global, dates: &[Day]) -> Result<bool, NoMemory>
+    ensures { IfOk result (λ distinct. distinct ≡ are_distinct dates.now) }
 {
     let mut seen = BTreeSet::new(alloc);
     for date in dates {
@@ -204,24 +212,13 @@ fn read_columns(alloc: Global, line: &[u8]) -> Result<Vec<Day>, TableRefusal>
     Ok(dates)
 }
 
-/// The label with these bytes.
-fn read_label(alloc: Global, bytes: &[u8]) -> Result<Label, TableRefusal>
-    ensures read { IfOk result (λ label. label ≡ bytes.now) }
-    ensures label { OnOk result (IsTrue (is_label bytes.now)) }
-    ensures refused { IsErrOf result TableRefusal.NotTable → is_label bytes.now ≡ false }
-    ensures memory { IsErrOf result TableRefusal.NoMemory → IsTrue (is_label bytes.now) }
-{
-    let label = Label::read(alloc, bytes)?;
-    Ok(label)
-}
-
 /// The row of a line: a label, and then a cell for each column.
 fn read_row(alloc: Global, line: &[u8], columns: usize) -> Result<ScenarioRow, TableRefusal>
     ensures read { IfOk result (λ r. row_in columns line.now ≡ Some (row r)) }
     ensures refused { IsErrOf result TableRefusal.NotTable → row_in columns line.now ≡ None }
 {
     let (name, behind) = first_piece(line, b',');
-    let label = read_label(alloc, name)?;
+    let label = Label::read(alloc, name)?;
     let cells = read_cells(alloc, behind, columns)?;
     Ok(ScenarioRow { label, cells })
 }
@@ -258,9 +255,12 @@ fn read_rows(
 
 /// The table of a text: a line `scenario` with its dates, and a line for each scenario.
 ///
-/// Each line ends with a line feed. `NotTable` where the text is no plain table, or has more than
-/// 4,096 dates or 100,000 rows; `NoMemory` where there is no memory for the table. A fixing is in
-/// raws of 1/10,000.
+/// Each line ends with a line feed. A fixing is in raws of 1/10,000.
+///
+/// # Errors
+///
+/// `NotTable` where the text is no plain table, or has more than 4,096 dates or 100,000 rows; `NoMemory` where there was
+/// no memory for the table.
 pub fn read_scenarios(alloc: Global, text: &[u8]) -> Result<Scenarios, TableRefusal>
     ensures read { IfOk result (λ scenarios. scenarios_in text.now ≡ Some (table scenarios)) }
     ensures good { IfOk result (λ scenarios. IsGood (table scenarios)) }

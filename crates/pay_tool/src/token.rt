@@ -95,7 +95,7 @@ pub enum Key {
     Or,
 }
 
-/// A sign.
+/// A sign of the grammar.
 #[derive(Clone, Copy, PartialEq, Eq, Debug)]
 pub enum Sign {
     Plus,
@@ -117,5 +117,6 @@ pub enum Token {
     Word(Letters),
     /// A keyword.
     Key(Key),
+    /// A sign.
     Sign(Sign),
 }

@@ -57,6 +57,10 @@ impl<'a> Variables<'a> {
     }
 
     /// Gives a variable this number.
+    ///
+    /// # Errors
+    ///
+    /// [`NoMemory`] where there was no memory for the variable.
     pub fn assign(&mut self, name: &'a Name, number: Fixed) -> Result<(), NoMemory>
         ensures { OnOk result (self.new ≡ insert self.old name.now number) }
     {

@@ -27,8 +27,11 @@ pub struct Moment {
 /// An amount that a leg is paid at a date.
 #[derive(Drop)]
 pub struct Payment<'a> {
+    /// The date.
     pub date: Day,
+    /// The leg that is paid.
     pub leg: &'a Name,
+    /// The amount.
     pub amount: Fixed,
 }
 
@@ -65,14 +68,16 @@ impl From<NoMemory> for Stop {
     }
 }
 
-/// The answer of a sum or a difference; `Overflow` where there is none.
+/// The answer of a sum or a difference, with the fault that its error is.
 fn limited(answer: Result<Fixed, Arith>) -> Result<Fixed, FaultKind>
-    ensures ok { IfOk answer (λ raw. result ≡ Ok raw) }
-    ensures err { IfErr answer (λ _. result ≡ Err FaultKind.Overflow) }
+    ensures ok { IfOk answer (λ number. result ≡ Ok number) }
+    ensures overflow { IsErrOf answer Arith.Overflow → result ≡ Err FaultKind.Overflow }
+    ensures zero_divisor { IsErrOf answer Arith.ZeroDivisor → result ≡ Err FaultKind.ZeroDivisor }
 {
     match answer {
         Ok(number) => Ok(number),
-        Err(_) => Err(FaultKind::Overflow),
+        Err(Arith::Overflow) => Err(FaultKind::Overflow),
+        Err(Arith::ZeroDivisor) => Err(FaultKind::ZeroDivisor),
     }
 }
 
@@ -86,7 +91,12 @@ fn calculated(op: Binary, left: Fixed, right: Fixed) -> Result<Fixed, FaultKind>
     }
 }
 
-/// The value of an expression: its number, or the first fault from left to right.
+/// The value of an expression.
+///
+/// # Errors
+///
+/// The first fault from left to right: `MissingFixing` where the fixing is read and there is none, `Overflow` where a
+/// sum or a difference is beyond the limit.
 pub fn value_of<'a>(
     expr: &'a Expr,
     variables: &Variables<'a>,
@@ -95,7 +105,7 @@ pub fn value_of<'a>(
     ensures { result ≡ value (number expr.now) variables.now (moment at.now) }
 {
     match expr {
-        Expr::Number(raw) => Ok(*raw),
+        Expr::Number(number) => Ok(*number),
         Expr::Name(name) => Ok(variables.value(name)),
         Expr::Spot => at.fixing.ok_or(FaultKind::MissingFixing),
         Expr::Binary(op, left, right) => {
@@ -148,6 +158,11 @@ fn run_statement<'a>(
 }
 
 /// Runs statements in their order, until one stops.
+///
+/// # Errors
+///
+/// `Fault` with the fault of the first statement that has one, `NoMemory` where there was no memory for a variable or a
+/// payment. Then `payments` has what it had, and perhaps some payments behind it.
 pub fn run_statements<'a>(
     statements: &'a [Stmt],
     variables: &mut Variables<'a>,

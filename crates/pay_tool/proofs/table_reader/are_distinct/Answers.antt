@@ -8,8 +8,8 @@ use Rattle.std.proofs.lemmas.Int.{to_z-of_z}
 use Rattle.pay_tool.proofs.DistinctLemmas.{distinct-more, distinct-repeat, among-more}
 use Rattle.pay_tool.proofs.table_reader.are_distinct.Goals as goal
 
-pub returns-then-not-added-clause-distinct : goal.returns-then-not-added-clause-distinct
-returns-then-not-added-clause-distinct c =
+pub returns-then-not-added : goal.returns-then-not-added
+returns-then-not-added c =
     let fits : SFits w32 c.number.result = search rules in
     let e : c.in_ok-added.added ≡ not (contains int_cmp c.loop-date.seen c.number.result) = simp to_z-of_z at c.in_ok-added.ensures.added in
     let old = not-false _ (sym e ∙ c.if-not-added.true) in
