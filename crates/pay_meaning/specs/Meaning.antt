@@ -37,9 +37,9 @@ abbrev pub moment_of : Event → Fixings → Moment
 moment_of event fixings = record { date = event.date; fixing = fixing_at fixings event.date; period = event.period; days = event.days }
 
 -- the raw of two raws under an operator, or Overflow where it is beyond the limit
-abbrev pub calc : Operator → ℤ → ℤ → Result ℤ FaultKind
-calc add a b = limited Overflow (a +ℤ b)
-calc subtract a b = limited Overflow (a -ℤ b)
+abbrev pub calculated : Operator → ℤ → ℤ → Result ℤ FaultKind
+calculated add a b = limited Overflow (a +ℤ b)
+calculated subtract a b = limited Overflow (a -ℤ b)
 
 -- a fixing, or the fault that it is missing
 abbrev pub known : Option ℤ → Result ℤ FaultKind
@@ -57,7 +57,7 @@ abbrev pub value : Number → Variables → Moment → Result ℤ FaultKind
 value (literal raw) variables at = Ok raw
 value (variable name) variables at = Ok (value_of variables name)
 value spot variables at = known at.fixing
-value (binary op left right) variables at = both (calc op) (value left variables at) (value right variables at)
+value (binary op left right) variables at = both (calculated op) (value left variables at) (value right variables at)
 
 -- an amount that a leg is paid at a date
 pub record Payment : Type 0 where

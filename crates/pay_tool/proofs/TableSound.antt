@@ -11,7 +11,7 @@ use Rattle.pay_dates.specs.Days.{day_in}
 use Rattle.pay_dates.specs.declared.day.Day.{Day}
 use Rattle.pay_fixed.specs.Decimal.{decimal_in}
 use Rattle.pay_fixed.specs.declared.NumberFault.{NumberFault}
-use Rattle.pay_tool.specs.Tables.{Row, Table, is_label, is_fixing, are_distinct, table_word, SpellsCell, SpellsCells, SpellsDates, SpellsRows, IsGood}
+use Rattle.pay_tool.specs.Tables.{Row, Table, is_label, is_fixing, are_distinct, table_word, SpellsCell, SpellsCells, SpellsDates, SpellsRows, IsAligned}
 use Rattle.pay_tool.specs.TableReading.{pieces, with_first, each_in, fixing_if, cell_in, full_if, row_if, row_of, row_in, rows_in, columns_if, columns_of_pieces, columns_in, rows_if, table_of_rows, table_below, scenarios_in}
 use Rattle.pay_tool.specs.TableLaws.{TableIsSpelled}
 use Rattle.pay_dates.proofs.DayLemmas.{day_text-day_in}
@@ -169,8 +169,8 @@ rows-full columns bytes rows (SpellsRows.no_row _) = tt
 rows-full columns bytes rows (SpellsRows.next_row _ label middle rest cells others is spells size more) = (size, rows-full columns rest others more)
 
 -- no two dates of a table that is read are one, and each of its rows has a cell for each date
-pub table_is_good : (bytes : List ℕ) (t : Table) → scenarios_in bytes ≡ Some t → IsGood t
-table_is_good bytes t e =
+pub table_is_aligned : (bytes : List ℕ) (t : Table) → scenarios_in bytes ≡ Some t → IsAligned t
+table_is_aligned bytes t e =
     let s = table-spelled bytes t e in
     record {
       distinct = s.distinct;

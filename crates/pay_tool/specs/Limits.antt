@@ -15,7 +15,7 @@ operators_of (token.Sign Minus) = 1
 operators_of (token.Sign Equals) = 1
 operators_of t = 0
 
--- a name
+-- a word that is no keyword
 abbrev pub is_word : Token → Bool
 is_word (token.Word letters) = true
 is_word t = false

@@ -75,6 +75,6 @@ pub record SpellsTable (bytes : List ℕ) (table : Table) : Type 0 where
   pub few_rows : length table.rows ≤ 100_000
 
 -- no two dates of the table are one, and each row has a cell for each date
-pub record IsGood (table : Table) : Type 0 where
+pub record IsAligned (table : Table) : Type 0 where
   pub distinct : IsTrue (are_distinct table.dates)
   pub full : All (λ row. length row.cells ≡ length table.dates) table.rows

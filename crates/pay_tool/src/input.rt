@@ -5,7 +5,7 @@ ghost use Rattle.pay_edge.specs.Edge.{OnlyRead};
 ghost use Rattle.pay_tree.specs.Views.{event};
 ghost use Rattle.pay_tool.specs.Answers.{script_of, script_limit, table_of, table_limit, good};
 ghost use Rattle.pay_tool.specs.InputStops.{StopsAt};
-ghost use Rattle.pay_tool.specs.Tables.{IsGood};
+ghost use Rattle.pay_tool.specs.Tables.{IsAligned};
 ghost use Rattle.pay_tool.specs.TableViews.{table};
 
 use crate::refusal::Refusal;
@@ -114,7 +114,7 @@ pub fn read_table<D: Depot>(
     ensures reads { OnlyRead D.files D.read_faults D.write_faults depot.old depot.new }
     ensures fetches { D.fetches depot.new ≤ D.fetches depot.old + (table_limit + 1) }
     ensures accepted { IfOk result (λ scenarios. IfSome (D.files depot.old) (λ files. table_of files name.now ≡ good (table scenarios))) }
-    ensures good { IfOk result (λ scenarios. IsGood (table scenarios)) }
+    ensures aligned { IfOk result (λ scenarios. IsAligned (table scenarios)) }
     ensures stopped { IfErr result (StopsAt (D.files depot.old) (λ files. table_of files name.now)
         (D.read_faults depot.old name.now) (D.read_faults depot.new name.now)) }
 {

@@ -6,7 +6,7 @@ ghost use Rattle.pay_edge.specs.Edge.{Rose, appended, AppendsFront};
 ghost use Rattle.pay_tree.specs.Views.{event};
 ghost use Rattle.pay_tool.specs.Columns.{columns_of};
 ghost use Rattle.pay_tool.specs.Report.{row_lines, report_text};
-ghost use Rattle.pay_tool.specs.Tables.{are_distinct, IsGood};
+ghost use Rattle.pay_tool.specs.Tables.{are_distinct, IsAligned};
 ghost use Rattle.pay_tool.specs.TableViews.{row, table};
 
 use crate::columns::columns_of_events;
@@ -56,7 +56,7 @@ pub fn put_report<O: Sink>(
     scenarios: &Scenarios,
     out: &mut O,
 ) -> Result<(), PutStop>
-    requires { IsGood (table scenarios.now) }
+    requires { IsAligned (table scenarios.now) }
     ensures ok { OnOk result (O.text out.new ≡ appended (O.text out.old) (report_text (map event events.now) (table scenarios.now))) }
     ensures front { AppendsFront (O.text out.old) (O.text out.new) (report_text (map event events.now) (table scenarios.now)) }
     ensures failed { IsErrOf result PutStop.Failed → Rose (O.faults out.old) (O.faults out.new) }

@@ -3,7 +3,7 @@
 ghost use Rattle.std.specs.Prelude.{◌≡◌, ◌≢◌, ◌∷◌, ◌<◌, ◌≤◌, ℕ, IfOk, IfSome, IsErrOf, Some, None, length, map, slice_index};
 ghost use Rattle.std.specs.Option.{option_copied};
 ghost use Rattle.pay_dates.specs.Days.{day_in};
-ghost use Rattle.pay_tool.specs.Tables.{IsGood, are_distinct, is_fixing};
+ghost use Rattle.pay_tool.specs.Tables.{IsAligned, are_distinct, is_fixing};
 ghost use Rattle.pay_tool.specs.TableReading.{cell_in, columns_if, columns_in, each_in, full_if, pieces, pieces_if, row_in, rows_if, rows_in, scenarios_in};
 ghost use Rattle.pay_tool.specs.TableViews.{row, table};
 
@@ -263,7 +263,7 @@ fn read_rows(
 /// no memory for the table.
 pub fn read_scenarios(alloc: Global, text: &[u8]) -> Result<Scenarios, TableRefusal>
     ensures read { IfOk result (λ scenarios. scenarios_in text.now ≡ Some (table scenarios)) }
-    ensures good { IfOk result (λ scenarios. IsGood (table scenarios)) }
+    ensures aligned { IfOk result (λ scenarios. IsAligned (table scenarios)) }
     ensures refused { IsErrOf result TableRefusal.NotTable → scenarios_in text.now ≡ None }
 {
     let (first, below) = first_piece(text, b'\n');

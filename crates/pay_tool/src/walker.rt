@@ -1,7 +1,7 @@
 //! The run of the statements of an event: its variables and payments, or its fault.
 
 ghost use Rattle.std.specs.Prelude.{◌≡◌, ◌∷◌, [], ◌++◌, IfErr, IfOk, IsErrOf, IsOk, OnOk, map};
-ghost use Rattle.pay_meaning.specs.Meaning.{calc, value, effect, effect_of, after_payments};
+ghost use Rattle.pay_meaning.specs.Meaning.{calculated, value, effect, effect_of, after_payments};
 ghost use Rattle.pay_tree.specs.Views.{number, operator, statement, body};
 ghost use Rattle.pay_tool.specs.RunViews.{Extends, leaves, moment, payment, StopsAs};
 
@@ -83,7 +83,7 @@ fn limited(answer: Result<Fixed, Arith>) -> Result<Fixed, FaultKind>
 
 /// The number of two numbers under an operator; `Overflow` where it is beyond the limit.
 fn calculated(op: Binary, left: Fixed, right: Fixed) -> Result<Fixed, FaultKind>
-    ensures { result ≡ calc (operator op) left right }
+    ensures { result ≡ calculated (operator op) left right }
 {
     match op {
         Binary::Add => limited(left.add(right)),

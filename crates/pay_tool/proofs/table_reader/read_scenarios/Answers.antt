@@ -2,7 +2,7 @@ use Rattle.std.proofs.Common.{arith}
 use Rattle.std.proofs.lemmas.Result.{err_from_is_err_and}
 use Rattle.pay_edge.proofs.Faults.{same_fault}
 use Rattle.pay_tool.proofs.ReaderLemmas.{scenarios-no_columns, scenarios-no_rows, scenarios-some}
-use Rattle.pay_tool.proofs.TableSound.{table_is_good}
+use Rattle.pay_tool.proofs.TableSound.{table_is_aligned}
 use Rattle.pay_tool.proofs.table_reader.read_scenarios.Goals as goal
 
 pub returns-in_err-dates-clause-refused : goal.returns-in_err-dates-clause-refused
@@ -19,5 +19,5 @@ pub returns-clause-read : goal.returns-clause-read
 returns-clause-read c =
     scenarios-some c.args.text.now c.first_piece.result.0.now _ c.in_ok-dates.dates.items c.len.result _ c.first_piece.ensures.pieces c.in_ok-dates.ensures.read (omega arith) c.in_ok-rows.ensures.read
 
-pub returns-clause-good : goal.returns-clause-good
-returns-clause-good c = table_is_good c.args.text.now _ (returns-clause-read c)
+pub returns-clause-aligned : goal.returns-clause-aligned
+returns-clause-aligned c = table_is_aligned c.args.text.now _ (returns-clause-read c)
