@@ -23,3 +23,4 @@ pub mod OneAnswer
 pub mod ColumnLemmas
 pub mod VariableLemmas
 pub mod Payable
+pub mod Refusals

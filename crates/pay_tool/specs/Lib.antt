@@ -31,3 +31,4 @@ pub mod Cells
 pub mod Assigned
 pub mod RunViews
 pub mod Runs
+pub mod RefusalLaws
