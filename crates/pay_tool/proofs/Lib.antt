@@ -15,7 +15,6 @@ mod DistinctLemmas
 pub mod TableSound
 pub mod TableComplete
 pub mod Pieces
-pub mod Spelled
 pub mod StretchLemmas
 pub mod Paid
 pub mod Ended

@@ -18,7 +18,10 @@ use Rattle.pay_tool.specs.Requests.{Asked, run, request_of}
 use Rattle.pay_tool.specs.Answers.{Input, not_there, bad, good, input_of, checked_script, checked_table, tokens_if, script_if, script_within, events_unless, table_if, script_limit, table_limit, script_of, table_of, run_script, run_table, answer_of}
 use Rattle.pay_tool.specs.Causes.{IsGiven}
 use Rattle.pay_tool.specs.Headline.{PaysAsMeant}
-use Rattle.pay_tool.proofs.Spelled.{tokens_are_spelled, script_is_spelled, table_is_spelled, no_date_is_shared}
+use Rattle.pay_meaning.proofs.EventLaws.{shared-earliest}
+use Rattle.pay_tool.proofs.LexingLemmas.{tokens_are_spelled}
+use Rattle.pay_tool.proofs.ScriptSound.{script_is_spelled}
+use Rattle.pay_tool.proofs.TableSound.{table_is_spelled}
 
 -- bytes that spell a script with these events, no two of one date
 record ScriptText (bytes : List ℕ) (events : List Event) : Type 0 where
@@ -48,7 +51,7 @@ from_shared bytes tokens script events None t s d e = record {
   spells_tokens = tokens_are_spelled bytes tokens t;
   script = script;
   spells_script = script_is_spelled tokens script s;
-  dates = no_date_is_shared (map event_of script) d;
+  dates = shared-earliest.none (map event_of script) d;
   events_are = cc;
 }
 

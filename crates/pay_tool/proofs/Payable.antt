@@ -16,12 +16,15 @@ use Rattle.pay_tool.specs.Requests.{request_of}
 use Rattle.pay_tool.specs.Answers.{Input, good, input_of, checked_script, checked_table, script_limit, table_limit, script_of, table_of, answer_of}
 use Rattle.pay_tool.specs.Causes.{IsReport}
 use Rattle.pay_tool.specs.Headline.{IsPayable}
-use Rattle.pay_tool.proofs.Spelled.{spelled_tokens_are_read, spelled_script_is_read, spelled_table_is_read, shared_date_is_shared}
+use Rattle.pay_meaning.proofs.EventLaws.{shared-earliest}
+use Rattle.pay_tool.proofs.LexingLemmas.{spelled_tokens_are_read}
+use Rattle.pay_tool.proofs.ScriptComplete.{spelled_script_is_read}
+use Rattle.pay_tool.proofs.TableComplete.{spelled_table_is_read}
 
 -- where no date is shared none is found
 none_found : (events : List Event) (found : Option Day) → shared_date (in_order events) ≡ found → ((number : ℤ) → ¬ IsShared number events) → found ≡ None
 none_found events None e none = refl
-none_found events (Some date) e none = absurd (none _ (shared_date_is_shared events date e))
+none_found events (Some date) e none = absurd (none _ (shared-earliest.found events date e).shared)
 
 -- a file that is not too long is taken whole
 whole_file : {A : Type 0} (check : List ℕ → Input A) (file : Option (List ℕ)) (bytes : List ℕ) (limit : ℕ) → file ≡ Some bytes → length bytes ≤ limit

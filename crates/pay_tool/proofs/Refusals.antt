@@ -20,7 +20,11 @@ use Rattle.pay_tool.specs.Grammar.{SpellsScript}
 use Rattle.pay_tool.specs.Tables.{Table}
 use Rattle.pay_tool.specs.Answers.{bad, checked_script, checked_table, tokens_if, script_if, script_within, events_unless, table_if}
 use Rattle.pay_tool.specs.RefusalLaws.{IsScriptFault, no_script, same_date, ScriptRefusalHasCause, IsTableFault, no_table, TableRefusalHasCause}
-use Rattle.pay_tool.proofs.Spelled.{tokens_are_spelled, script_is_spelled, table_is_spelled, no_date_is_shared, spelled_tokens_are_read, spelled_script_is_read, spelled_table_is_read}
+use Rattle.pay_tool.proofs.LexingLemmas.{tokens_are_spelled, spelled_tokens_are_read}
+use Rattle.pay_tool.proofs.ScriptSound.{script_is_spelled}
+use Rattle.pay_tool.proofs.TableSound.{table_is_spelled}
+use Rattle.pay_tool.proofs.ScriptComplete.{spelled_script_is_read}
+use Rattle.pay_tool.proofs.TableComplete.{spelled_table_is_read}
 
 -- what is spelled is what was read
 spelled_tokens : (bytes : List ℕ) (read tokens : List Token) → tokens_in bytes ≡ Some read → SpellsTokens bytes tokens → tokens ≡ read
@@ -88,7 +92,7 @@ none_cut bytes (Some tokens) t none = none_read bytes tokens (script_in tokens) 
 
 -- the earliest shared date is the one that is found
 found_date : (events : List Event) (date : Day) (shared : Option Day) → shared_date (in_order events) ≡ shared → IsEarliestShared events date → shared ≡ Some date
-found_date events date None d earliest = absurd (no_date_is_shared events d (day_number date) earliest.shared)
+found_date events date None d earliest = absurd (shared-earliest.none events d (day_number date) earliest.shared)
 found_date events date (Some found) d earliest =
     let other = shared-earliest.found events found d in
     let before : day_number found ≤ℤ day_number date = other.earliest (day_number date) earliest.shared in

@@ -93,9 +93,9 @@ columns-read bytes dates spells distinct few =
     ap columns_of_pieces p.1.0 ∙ (ap columns_if p.1.1 ∙ rw (distinct, le-leb (length dates) 4096 few) refl)
 
 -- a text that spells a table reads as it
-pub table-read : SpelledTableIsRead
+pub spelled_table_is_read : SpelledTableIsRead
 unfolding scenarios_in
-table-read bytes t s =
+spelled_table_is_read bytes t s =
     let head : Lacks 10 (table_word ++ s.dates) = Lacks-append 10 table_word s.dates (refl, (refl, (refl, (refl, (refl, (refl, (refl, (refl, tt)))))))) (dates-lack_end s.dates t.dates s.spells_dates) in
     let cut : pieces 10 bytes ≡ (table_word ++ s.dates) ∷ pieces 10 s.rows =
     ap (pieces 10) (s.cut ∙ sym (append_assoc table_word s.dates (10 ∷ s.rows))) ∙ pieces-cut 10 (table_word ++ s.dates) s.rows head in
@@ -104,5 +104,5 @@ table-read bytes t s =
     ∙ (ap (λ (x : Option (List Row)). table_of_rows t.dates (rows_if x)) (rows-read (length t.dates) s.rows t.rows s.spells_rows) ∙ rw (le-leb (length t.rows) 100_000 s.few_rows) refl))
 
 -- a text spells at most one table
-pub table-one : OneTable
-table-one bytes one other s r = same_Some one other (sym (table-read bytes one s) ∙ table-read bytes other r)
+pub one_table : OneTable
+one_table bytes one other s r = same_Some one other (sym (spelled_table_is_read bytes one s) ∙ spelled_table_is_read bytes other r)

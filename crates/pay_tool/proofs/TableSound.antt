@@ -143,8 +143,8 @@ no_rows_in-nothing : (columns : ℕ) (rows : List Row) → rows_in columns [] �
 no_rows_in-nothing columns rows e = cc
 
 -- a text that reads as a table spells it
-pub table-spelled : TableIsSpelled
-table-spelled bytes t e =
+pub table_is_spelled : TableIsSpelled
+table_is_spelled bytes t e =
     let p = table_in-some bytes t e in
     let ps = p.1.0 in
     let parts = p.1.1 in
@@ -171,7 +171,7 @@ rows-full columns bytes rows (SpellsRows.next_row _ label middle rest cells othe
 -- no two dates of a table that is read are one, and each of its rows has a cell for each date
 pub table_is_aligned : (bytes : List ℕ) (t : Table) → scenarios_in bytes ≡ Some t → IsAligned t
 table_is_aligned bytes t e =
-    let s = table-spelled bytes t e in
+    let s = table_is_spelled bytes t e in
     record {
       distinct = s.distinct;
       full = All-from_recursion (λ r. length r.cells ≡ length t.dates) t.rows (rows-full (length t.dates) s.rows t.rows s.spells_rows);

@@ -1,5 +1,5 @@
-use Rattle.pay_tool.proofs.TableComplete.{table-one}
+use Rattle.pay_tool.proofs.TableComplete.{one_table}
 use Rattle.pay_tool.proofs.table_laws.one_table.Goals as goal
 
 pub returns : goal.returns
-returns c = table-one
+returns c = one_table

@@ -1,5 +1,5 @@
-use Rattle.pay_tool.proofs.TableSound.{table-spelled}
+use Rattle.pay_tool.proofs.TableSound.{table_is_spelled}
 use Rattle.pay_tool.proofs.table_laws.table_is_spelled.Goals as goal
 
 pub returns : goal.returns
-returns c = table-spelled
+returns c = table_is_spelled
