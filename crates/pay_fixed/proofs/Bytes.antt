@@ -3,7 +3,8 @@ use Rattle.std.proofs.Common.{◌≡◌, ◌≢◌, ℕ, Bool, inl, inr, List, [
 use Rattle.std.specs.Prelude.{Ok}
 use Rattle.std.specs.List.{All}
 use Rattle.std.proofs.lemmas.List.Elements.{All-append, All-cons, All-nil}
-use Rattle.pay_fixed.specs.Grammar.{Decimal, IsBlank, IsDigit, IsPowerSign, AreBlanks, AreDigits, SpellsSign, no_sign, plus, minus, SpellsFraction, no_fraction, point, SpellsExponent, no_exponent, power, SpellsDecimal}
+use Rattle.pay_fixed.specs.Grammar.{Decimal, IsBlank, IsDigit, IsPowerSign, AreBlanks, AreDigits, SpellsSign, no_sign, plus}
+use Rattle.pay_fixed.specs.Grammar.{minus, SpellsFraction, no_fraction, point, SpellsExponent, no_exponent, power, SpellsDecimal}
 use Rattle.pay_fixed.specs.Decimal.{decimal_in}
 use Rattle.pay_fixed.proofs.AsSpelled.{decimal_is_spelled}
 

@@ -35,8 +35,12 @@ neg-times-neg (suc q) b = refl
 
 near-round : (n d : ℤ) → 0 < unsigned_abs d → IsNear n d (round n d)
 near-round (pos a) (pos b) h = let k = nearest_bounds a b h in near-same a b (nearest a b) k.0 k.1
-near-round (pos a) (negsuc b) h = let k = nearest_bounds a (suc b) h in rw (neg-times-neg (nearest a (suc b)) b) (near-same a (suc b) (nearest a (suc b)) k.0 k.1)
-near-round (negsuc a) (pos b) h = let k = nearest_bounds (suc a) b h in rw (neg-times-pos (nearest (suc a) b) b) (near-other (suc a) b (nearest (suc a) b) k.0 k.1)
+near-round (pos a) (negsuc b) h =
+    let k = nearest_bounds a (suc b) h in
+    rw (neg-times-neg (nearest a (suc b)) b) (near-same a (suc b) (nearest a (suc b)) k.0 k.1)
+near-round (negsuc a) (pos b) h =
+    let k = nearest_bounds (suc a) b h in
+    rw (neg-times-pos (nearest (suc a) b) b) (near-other (suc a) b (nearest (suc a) b) k.0 k.1)
 near-round (negsuc a) (negsuc b) h = let k = nearest_bounds (suc a) (suc b) h in (near-other (suc a) (suc b) (nearest (suc a) (suc b)) k.0 k.1)
 
 -- no number that is as near has a greater magnitude
@@ -54,5 +58,6 @@ round_is_rounded n d divides =
       near = near-round n d positive;
       away = λ (other : ℤ) near.
           let far = rw (unsigned_abs-mul other d) at (reach n (other *ℤ d) (unsigned_abs d) near) in
-          rw (unsigned_abs-round n d) (away-nat (unsigned_abs n) (unsigned_abs d) (unsigned_abs other) (nearest (unsigned_abs n) (unsigned_abs d)) positive bounds.1 far);
+          let size = nearest (unsigned_abs n) (unsigned_abs d) in
+          rw (unsigned_abs-round n d) (away-nat (unsigned_abs n) (unsigned_abs d) (unsigned_abs other) size positive bounds.1 far);
     }

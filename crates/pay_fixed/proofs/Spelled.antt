@@ -1,11 +1,15 @@
 -- What is read of a text is what the text spells.
-use Rattle.std.proofs.Common.{◌≡◌, ℕ, ◌+◌, ◌≤◌, ◌==◌, Bool, true, false, inl, inr, List, [], ◌∷◌, ◌++◌, length, pos, Option, Some, None, refl, sym, ◌∙◌, ap, arith, leb-true, eqb-true, append_assoc, length-append}
+use Rattle.std.proofs.Common.{◌≡◌, ℕ, ◌+◌, ◌≤◌, ◌==◌, Bool, true, false, inl, inr, List, [], ◌∷◌, ◌++◌, length, pos, Option}
+use Rattle.std.proofs.Common.{Some, None, refl, sym, ◌∙◌, ap, arith, leb-true, eqb-true, append_assoc, length-append}
 use Rattle.std.specs.Prelude.{◌&&◌, nat_le}
 use Rattle.std.specs.Option.{option_map}
 use Rattle.std.proofs.lemmas.Bool.{cases_Bool, and_parts}
 use Rattle.std.proofs.lemmas.Bool.Decides.{nat_tests}
-use Rattle.pay_fixed.specs.Grammar.{IsBlank, IsPowerSign, AreBlanks, AreDigits, IsNumeral, number, signed, SpellsSign, no_sign, plus, minus, SpellsFraction, no_fraction, point, SpellsExponent, no_exponent, power, SpellsDecimal}
-use Rattle.pay_fixed.specs.Reading.{Reading, is_blank, is_digit, is_power_sign, after_blanks, all_blank, digits_at, after_digits, has_minus, after_sign, only_power, with_fraction, with_whole, with_sign, power_at, exponent_at, fraction_at, unsigned_at, signed_at, is_whole}
+use Rattle.pay_fixed.specs.Grammar.{IsBlank, IsPowerSign, AreBlanks, AreDigits, IsNumeral, number, signed, SpellsSign, no_sign, plus}
+use Rattle.pay_fixed.specs.Grammar.{minus, SpellsFraction, no_fraction, point, SpellsExponent, no_exponent, power, SpellsDecimal}
+use Rattle.pay_fixed.specs.Reading.{Reading, is_blank, is_digit, is_power_sign, after_blanks, all_blank, digits_at}
+use Rattle.pay_fixed.specs.Reading.{after_digits, has_minus, after_sign, only_power, with_fraction, with_whole}
+use Rattle.pay_fixed.specs.Reading.{with_sign, power_at, exponent_at, fraction_at, unsigned_at, signed_at, is_whole}
 use Rattle.pay_fixed.proofs.Digits.{digits_at-digits}
 
 -- tests of a byte, and what they mean
@@ -111,7 +115,8 @@ pub record ReadsFraction (t : List ℕ) (r : Reading) : Type 0 where
   pub spells_exponent : SpellsExponent exponent r.decimal.exponent
   pub split : t ≡ fraction ++ (exponent ++ r.rest)
 
-point-read : (cs : List ℕ) (r : Reading) → 1 ≤ length (digits_at cs) → ReadsExponent (after_digits cs) r → ReadsFraction (46 ∷ cs) (with_fraction (digits_at cs) r)
+point-read : (cs : List ℕ) (r : Reading) → 1 ≤ length (digits_at cs) → ReadsExponent (after_digits cs) r
+    → ReadsFraction (46 ∷ cs) (with_fraction (digits_at cs) r)
 point-read cs r some e = record {
   fraction = 46 ∷ digits_at cs;
   exponent = e.exponent;

@@ -1,11 +1,14 @@
 -- What a text spells is read.
-use Rattle.std.proofs.Common.{◌≡◌, ℕ, ◌+◌, ◌≤◌, ◌==◌, Bool, true, false, inl, inr, List, [], ◌∷◌, ◌++◌, length, ℤ, pos, Some, refl, ◌∙◌, ap, arith, append_assoc, length-append, le-leb}
+use Rattle.std.proofs.Common.{◌≡◌, ℕ, ◌+◌, ◌≤◌, ◌==◌, Bool, true, false, inl, inr, List, [], ◌∷◌, ◌++◌}
+use Rattle.std.proofs.Common.{length, ℤ, pos, Some, refl, ◌∙◌, ap, arith, append_assoc, length-append, le-leb}
 use Rattle.std.specs.Prelude.{◌||◌, nat_le}
 use Rattle.std.proofs.lemmas.Bool.Decides.{nat_tests}
 use Rattle.pay_fixed.specs.declared.NumberFault.TheVariants.{TooLarge}
 use Rattle.pay_fixed.specs.Round.{limited}
-use Rattle.pay_fixed.specs.Grammar.{Decimal, IsBlank, IsDigit, IsPowerSign, AreBlanks, AreDigits, IsNumeral, number, signed, SpellsSign, no_sign, plus, minus, SpellsFraction, no_fraction, point, SpellsExponent, no_exponent, power, SpellsDecimal, raw_of}
-use Rattle.pay_fixed.specs.Reading.{is_blank, is_digit, is_power_sign, after_blanks, all_blank, digits_at, after_digits, has_minus, after_sign, only_power, with_fraction, with_whole, with_sign, power_at, exponent_at, fraction_at, unsigned_at, signed_at}
+use Rattle.pay_fixed.specs.Grammar.{Decimal, IsBlank, IsDigit, IsPowerSign, AreBlanks, AreDigits, IsNumeral, number, signed, SpellsSign, no_sign}
+use Rattle.pay_fixed.specs.Grammar.{plus, minus, SpellsFraction, no_fraction, point, SpellsExponent, no_exponent, power, SpellsDecimal, raw_of}
+use Rattle.pay_fixed.specs.Reading.{is_blank, is_digit, is_power_sign, after_blanks, all_blank, digits_at, after_digits, has_minus, after_sign}
+use Rattle.pay_fixed.specs.Reading.{only_power, with_fraction, with_whole, with_sign, power_at, exponent_at, fraction_at, unsigned_at, signed_at}
 use Rattle.pay_fixed.specs.Decimal.{decimal_in}
 
 -- the text does not begin with a byte of which the test is true
@@ -111,7 +114,8 @@ unsigned-complete w f x rest ds z n g e h =
     let low : nat_le 1 (length w) ≡ true = le-leb 1 (length w) n.0 in
     rw (greedy w (f ++ (x ++ rest)) n.1 stop, after-greedy w (f ++ (x ++ rest)) n.1 stop, low, fraction-complete f x rest ds z g e h) refl
 
-signed-complete : (s w f x rest ds : List ℕ) (negative : Bool) (z : ℤ) → SpellsSign s negative → IsNumeral w → SpellsFraction f ds → SpellsExponent x z → AreBlanks rest
+signed-complete : (s w f x rest ds : List ℕ) (negative : Bool) (z : ℤ)
+    → SpellsSign s negative → IsNumeral w → SpellsFraction f ds → SpellsExponent x z → AreBlanks rest
     → signed_at (s ++ (w ++ (f ++ (x ++ rest)))) ≡ Some (with_sign negative (with_whole w (with_fraction ds (only_power z rest))))
 signed-complete s w f x rest ds negative z g n k e h =
     let t = w ++ (f ++ (x ++ rest)) in
@@ -145,8 +149,10 @@ spelled-read bytes d p =
     let rest = p.fraction ++ (p.exponent ++ p.after) in
     let t = p.sign ++ (d.whole ++ rest) in
     let joined : bytes ≡ p.before ++ t = p.cut ∙ simp append_assoc in
-    let clear : StartsWithout is_blank t = sign-no-blank p.sign (d.whole ++ rest) d.negative p.spells_sign (digits-without is_blank digit-no-blank d.whole rest p.spells_whole) in
+    let whole_clear : StartsWithout is_blank (d.whole ++ rest) = digits-without is_blank digit-no-blank d.whole rest p.spells_whole in
+    let clear : StartsWithout is_blank t = sign-no-blank p.sign (d.whole ++ rest) d.negative p.spells_sign whole_clear in
     let text : after_blanks bytes ≡ t = rw joined (after_blanks-complete p.before t p.blank_before clear) in
-    let read = signed-complete p.sign d.whole p.fraction p.exponent p.after d.fraction d.negative d.exponent p.spells_sign p.spells_whole p.spells_fraction p.spells_exponent p.blank_after in
+    let read = signed-complete p.sign d.whole p.fraction p.exponent p.after d.fraction d.negative d.exponent
+    p.spells_sign p.spells_whole p.spells_fraction p.spells_exponent p.blank_after in
     let few : length t ≤ length p.after + 40 = simp length-append (omega (arith, simp length-append at p.short)) in
     rw (text, read, all_blank-complete p.after p.blank_after, le-leb (length t) (length p.after + 40) few) refl

@@ -1,5 +1,6 @@
 -- The text of a number spells it, exactly and with the fewest digits.
-use Rattle.std.proofs.Common.{◌≡◌, ℕ, zero, suc, ◌+◌, ◌-◌, ◌*◌, ◌/◌, ◌%◌, ◌^◌, ◌<◌, ◌≤◌, ◌==◌, Bool, true, false, inl, inr, List, [], ◌∷◌, ◌++◌, length, ℤ, pos, negsuc, neg_ℤ, ◌*ℤ◌, unsigned_abs, refl, sym, ◌∙◌, ap, arith, length-append, eqb-true, rules, pow-add}
+use Rattle.std.proofs.Common.{◌≡◌, ℕ, zero, suc, ◌+◌, ◌-◌, ◌*◌, ◌/◌, ◌%◌, ◌^◌, ◌<◌, ◌≤◌, ◌==◌, Bool, true, false, inl, inr, List, [], ◌∷◌, ◌++◌}
+use Rattle.std.proofs.Common.{length, ℤ, pos, negsuc, neg_ℤ, ◌*ℤ◌, unsigned_abs, refl, sym, ◌∙◌, ap, arith, length-append, eqb-true, rules, pow-add}
 use Rattle.std.specs.Prelude.{int_lt}
 use Rattle.std.specs.Fmt.{decimal}
 use Rattle.std.proofs.lemmas.Bool.{cases_Bool}
@@ -11,7 +12,8 @@ use Rattle.std.proofs.lemmas.Str.Parse.{IsNumeralModel, numerals_by_fold}
 use Rattle.std.proofs.Math.Nat.{pow-suc, div-eq_of_lt-le}
 use Rattle.pay_fixed.specs.declared.NumberFault.TheVariants.{TooLarge}
 use Rattle.pay_fixed.specs.Round.{scale, nearest, round, IsRaw}
-use Rattle.pay_fixed.specs.Grammar.{Decimal, AreDigits, number_on, number, signed, SpellsSign, no_sign, minus, SpellsFraction, no_fraction, point, no_exponent, SpellsDecimal, tens_up, tens_down, numerator, denominator, raw_of, IsExactly}
+use Rattle.pay_fixed.specs.Grammar.{Decimal, AreDigits, number_on, number, signed, SpellsSign, no_sign, minus, SpellsFraction, no_fraction}
+use Rattle.pay_fixed.specs.Grammar.{point, no_exponent, SpellsDecimal, tens_up, tens_down, numerator, denominator, raw_of, IsExactly}
 use Rattle.pay_fixed.specs.Decimal.{four_digits, keep, without_zeros, sign_text, point_text, decimal_of, decimal_text}
 use Rattle.pay_fixed.specs.Laws.{DecimalReadsBack, DecimalHasFewestPlaces}
 use Rattle.pay_fixed.proofs.Digits.{number_on-append, number_on-is}
@@ -182,8 +184,9 @@ abs-exact : (d : Decimal) (z : ℤ) → IsExactly d z
     → number (d.whole ++ d.fraction) * 10_000 * 10 ^ tens_up d.exponent ≡ unsigned_abs z * 10 ^ (length d.fraction + tens_down d.exponent)
 abs-exact d z h =
     let n = number (d.whole ++ d.fraction) in
+    let powered = unsigned_abs-mul (signed d.negative n *ℤ scale) (pos (10 ^ tens_up d.exponent)) in
     let left : unsigned_abs (numerator d) ≡ n * 10_000 * 10 ^ tens_up d.exponent =
-    rw (unsigned_abs-mul (signed d.negative n *ℤ scale) (pos (10 ^ tens_up d.exponent)), unsigned_abs-mul (signed d.negative n) scale, unsigned_abs-signed d.negative n) refl in
+    rw (powered, unsigned_abs-mul (signed d.negative n) scale, unsigned_abs-signed d.negative n) refl in
     let right : unsigned_abs (z *ℤ denominator d) ≡ unsigned_abs z * 10 ^ (length d.fraction + tens_down d.exponent) = unsigned_abs-mul z (denominator d) in
     sym left ∙ (ap unsigned_abs h ∙ right)
 

@@ -1,12 +1,14 @@
 -- The digits that are read first say what the raw is.
-use Rattle.std.proofs.Common.{◌≡◌, ℕ, zero, suc, ◌+◌, ◌-◌, ◌*◌, ◌/◌, ◌^◌, ◌<◌, ◌≤◌, min, inl, inr, Bool, true, false, List, ◌++◌, length, take, drop, ℤ, pos, negsuc, neg_ℤ, ◌*ℤ◌, unsigned_abs, refl, sym, ◌∙◌, ap, arith, length-append, length-drop, add-one-le}
+use Rattle.std.proofs.Common.{◌≡◌, ℕ, zero, suc, ◌+◌, ◌-◌, ◌*◌, ◌/◌, ◌^◌, ◌<◌, ◌≤◌, min, inl, inr, Bool, true, false, List, ◌++◌, length, take}
+use Rattle.std.proofs.Common.{drop, ℤ, pos, negsuc, neg_ℤ, ◌*ℤ◌, unsigned_abs, refl, sym, ◌∙◌, ap, arith, length-append, length-drop, add-one-le}
 use Rattle.std.specs.Prelude.{nat_le, Result, Err}
 use Rattle.std.proofs.lemmas.Bool.{cases_lt}
 use Rattle.std.proofs.lemmas.Bool.Decides.{nat_tests}
 use Rattle.std.proofs.lemmas.Int.{ints}
 use Rattle.std.proofs.lemmas.List.{take-append-drop, take_all}
 use Rattle.std.proofs.lemmas.Nat.{pow-add, div-mul-add}
-use Rattle.std.proofs.Math.Nat.{mul-div-mul_right, mul-le-mul_right, div-mul-le_self, lt-div-mul-add, div-eq_of_lt-le, div-eq_of_lt, one-le-pow, pow-le-pow_right}
+use Rattle.std.proofs.Math.Nat.{mul-div-mul_right, mul-le-mul_right, div-mul-le_self, lt-div-mul-add}
+use Rattle.std.proofs.Math.Nat.{div-eq_of_lt-le, div-eq_of_lt, one-le-pow, pow-le-pow_right}
 use Rattle.pay_fixed.specs.Round.{scale, limit, nearest, round, limited}
 use Rattle.pay_fixed.specs.Grammar.{Decimal, AreDigits, number, signed, tens_up, tens_down, raw_of}
 use Rattle.pay_fixed.specs.Parts.{beyond, leading, shifted_length}
@@ -69,7 +71,8 @@ leading-is k ds h = elim (cases_lt (length ds) k) [
       once ∙ cut ∙ (rw whole at same)
   | inl many ↦
       let all : take k ds ≡ ds = take_all k ds (omega arith) in
-      let same : number ds * 10 ^ (k - length ds) / 10 ^ 0 ≡ number ds * 10 ^ k / 10 ^ length ds = same-quotient (number ds) (k - length ds) 0 k (length ds) (omega arith) in
+      let same : number ds * 10 ^ (k - length ds) / 10 ^ 0 ≡ number ds * 10 ^ k / 10 ^ length ds =
+      same-quotient (number ds) (k - length ds) 0 k (length ds) (omega arith) in
       let once : number ds * 10 ^ (k - length ds) / 10 ^ 0 ≡ number ds * 10 ^ (k - length ds) = omega arith in
       rw all (sym once ∙ same)
 ]
@@ -135,19 +138,25 @@ round-signed false n u q h = refl
 round-signed true n u q h = rw (neg-times-pos n 10_000, neg-times-pos (n * 10_000) u) (round-neg (n * 10_000 * u) q h)
 
 -- the raw of a decimal has its sign, and the nearest magnitude
-pub raw_of-signed : (d : Decimal) → raw_of d ≡ signed d.negative (nearest (number (d.whole ++ d.fraction) * 10_000 * 10 ^ tens_up d.exponent) (10 ^ (length d.fraction + tens_down d.exponent)))
+pub raw_of-signed : (d : Decimal)
+    → raw_of d ≡ signed d.negative
+    (nearest (number (d.whole ++ d.fraction) * 10_000 * 10 ^ tens_up d.exponent) (10 ^ (length d.fraction + tens_down d.exponent)))
 unfolding raw_of
-raw_of-signed d = round-signed d.negative (number (d.whole ++ d.fraction)) (10 ^ tens_up d.exponent) (10 ^ (length d.fraction + tens_down d.exponent)) (ten-pos (length d.fraction + tens_down d.exponent))
+raw_of-signed d =
+    let places = length d.fraction + tens_down d.exponent in
+    round-signed d.negative (number (d.whole ++ d.fraction)) (10 ^ tens_up d.exponent) (10 ^ places) (ten-pos places)
 
--- what `rounded` reckons is the raw, or it is past the limit as the raw is
+-- what `rounded` reckons is the raw, or it is beyond the limit as the raw is
 pub read-value : {E : Type 0} (e : E) (d : Decimal) (k t : ℕ) (r : Result ℤ E) → AreDigits d.whole → AreDigits d.fraction
     → k ≡ shifted_length (length d.whole) d.exponent → t ≡ min (leading k (d.whole ++ d.fraction)) beyond
     → r ≡ limited e (signed d.negative ((t + 5) / 10)) → r ≡ limited e (raw_of d)
 read-value e d k t r w f k_is t_is r_is =
     let n = number (d.whole ++ d.fraction) * 10_000 * 10 ^ tens_up d.exponent in
     let b = 10 ^ (length d.fraction + tens_down d.exponent) in
-    let value : leading k (d.whole ++ d.fraction) ≡ 10 * n / b = rw k_is (leading-tenths d.whole d.fraction d.exponent (AreDigits-append d.whole d.fraction w f)) in
+    let digits = AreDigits-append d.whole d.fraction w f in
+    let value : leading k (d.whole ++ d.fraction) ≡ 10 * n / b = rw k_is (leading-tenths d.whole d.fraction d.exponent digits) in
     let near : nearest n b ≡ (10 * n / b + 5) / 10 = nearest-tenths n b (ten-pos (length d.fraction + tens_down d.exponent)) in
     let there : limited e (raw_of d) ≡ limited e (signed d.negative ((10 * n / b + 5) / 10)) = rw (raw_of-signed d, near) refl in
-    let here : limited e (signed d.negative ((t + 5) / 10)) ≡ limited e (signed d.negative ((10 * n / b + 5) / 10)) = rw (t_is, value) (limited-capped e d.negative (10 * n / b)) in
+    let here : limited e (signed d.negative ((t + 5) / 10)) ≡ limited e (signed d.negative ((10 * n / b + 5) / 10)) =
+    rw (t_is, value) (limited-capped e d.negative (10 * n / b)) in
     r_is ∙ here ∙ sym there

@@ -1,5 +1,6 @@
 -- The text of a number, and the number of a text.
-use Rattle.std.specs.Prelude.{ℕ, ◌+◌, ◌/◌, ◌%◌, ◌==◌, int_lt, Bool, true, false, List, [], ◌∷◌, ◌++◌, length, ℤ, pos, unsigned_abs, Option, Some, None, Result, Err, if◌then◌else◌}
+use Rattle.std.specs.Prelude.{ℕ, ◌+◌, ◌/◌, ◌%◌, ◌==◌, int_lt, Bool, true, false, List, [], ◌∷◌, ◌++◌}
+use Rattle.std.specs.Prelude.{length, ℤ, pos, unsigned_abs, Option, Some, None, Result, Err, if◌then◌else◌}
 use Rattle.std.specs.Fmt.{decimal}
 use Rattle.pay_fixed.specs.declared.NumberFault.{NumberFault}
 use Rattle.pay_fixed.specs.declared.NumberFault.TheVariants.{NotNumber, TooLarge}

@@ -1,5 +1,7 @@
--- Rounding to whole numbers, and the limit of a number.
-use Rattle.std.specs.Prelude.{ℕ, suc, ◌+◌, ◌*◌, ◌/◌, ◌≤◌, nat_le, ℤ, pos, negsuc, neg_ℤ, ◌-ℤ◌, ◌*ℤ◌, unsigned_abs, ◌≢◌, Result, Ok, Err, if◌then◌else◌}
+-- Rounding to whole numbers, the limit of a number, and the products and quotients that are rounded.
+use Rattle.std.specs.Prelude.{ℕ, suc, ◌+◌, ◌*◌, ◌/◌, ◌≤◌, nat_le, ℤ, pos, negsuc, neg_ℤ, ◌-ℤ◌, ◌*ℤ◌, unsigned_abs, ◌≢◌, Result, Ok, Err}
+use Rattle.std.specs.Prelude.{if◌then◌else◌}
+use Rattle.std.specs.Ordering.{int_eq}
 
 -- one in raws: there are ten thousand to a whole
 abbrev pub scale : ℤ
@@ -40,3 +42,12 @@ IsRaw z = unsigned_abs z ≤ limit
 -- z, or the given fault where z is beyond the limit
 abbrev pub limited : {E : Type 0} → E → ℤ → Result ℤ E
 limited overflow z = if nat_le (unsigned_abs z) limit then Ok z else Err overflow
+
+-- the product of two raws, rounded once; or the given fault where that is beyond the limit
+abbrev pub product : {E : Type 0} → E → ℤ → ℤ → Result ℤ E
+product overflow a b = limited overflow (round (a *ℤ b) scale)
+
+-- the quotient of two raws, rounded once; or the second fault where the divisor is zero, and otherwise
+-- the first where the rounded quotient is beyond the limit
+abbrev pub quotient : {E : Type 0} → E → E → ℤ → ℤ → Result ℤ E
+quotient overflow zero_divisor a b = if int_eq b (pos 0) then Err zero_divisor else limited overflow (round (a *ℤ scale) b)

@@ -1,9 +1,11 @@
-//! The number type and its exact sums.
+//! The number type and its arithmetic: sums are exact, products and quotients are rounded once.
 
-ghost use Rattle.std.specs.Prelude.{◌≡◌, ◌↔◌, ◌+ℤ◌, ◌-ℤ◌, IfSome, IsSome};
-ghost use Rattle.pay_fixed.specs.Round.{limited, IsRaw};
+ghost use Rattle.std.specs.Prelude.{◌≡◌, ◌↔◌, ◌+ℤ◌, ◌-ℤ◌, neg_ℤ, pos, unsigned_abs, IfSome, IsSome};
+ghost use Rattle.std.specs.Int.{int_min, int_max};
+ghost use Rattle.pay_fixed.specs.Round.{limited, product, quotient, IsRaw};
 
 use crate::Arith;
+use crate::round::{SCALE, product, rounded};
 use std::marker::Model;
 
 /// The greatest raw of a [`Fixed`], and with a minus sign the least: 10^18, in units of 1/10,000.
@@ -71,5 +73,76 @@ impl Fixed {
         ensures { result ≡ limited Arith.Overflow (self -ℤ other) }
     {
         Fixed::from_raw(self.raw - other.raw).ok_or(Arith::Overflow)
+    }
+
+    /// The product of the two numbers, rounded once to the nearest raw, a half away from zero.
+    ///
+    /// # Errors
+    ///
+    /// [`Arith::Overflow`] exactly where the rounded product lies beyond the limit.
+    pub fn mul(self, other: Fixed) -> Result<Fixed, Arith>
+        ensures { result ≡ product Arith.Overflow self other }
+    {
+        within_limit(rounded(product(self.raw, other.raw), SCALE))
+    }
+
+    /// This number over the other, rounded once to the nearest raw, a half away from zero.
+    ///
+    /// # Errors
+    ///
+    /// [`Arith::ZeroDivisor`] exactly where the other number is zero; [`Arith::Overflow`] exactly where it is not and
+    /// the rounded quotient lies beyond the limit.
+    pub fn div(self, other: Fixed) -> Result<Fixed, Arith>
+        ensures { result ≡ quotient Arith.Overflow Arith.ZeroDivisor self other }
+    {
+        if other.raw == 0 {
+            return Err(Arith::ZeroDivisor);
+        }
+        within_limit(rounded(product(self.raw, SCALE), other.raw))
+    }
+
+    /// The number with the other sign; zero stays zero.
+    pub fn neg(self) -> Fixed
+        ensures { result ≡ neg_ℤ self }
+    {
+        Fixed { raw: -self.raw }
+    }
+
+    /// The magnitude of the number: the number without its sign.
+    pub fn abs(self) -> Fixed
+        ensures { result ≡ pos (unsigned_abs self) }
+    {
+        Fixed {
+            raw: self.raw.abs(),
+        }
+    }
+
+    /// The smaller of the two numbers.
+    pub fn min(self, other: Fixed) -> Fixed
+        ensures { result ≡ int_min self other }
+    {
+        Fixed {
+            raw: self.raw.min(other.raw),
+        }
+    }
+
+    /// The greater of the two numbers.
+    pub fn max(self, other: Fixed) -> Fixed
+        ensures { result ≡ int_max self other }
+    {
+        Fixed {
+            raw: self.raw.max(other.raw),
+        }
+    }
+}
+
+/// The number of this raw, if it lies within the limit.
+fn within_limit(raw: i128) -> Result<Fixed, Arith>
+    ensures { result ≡ limited Arith.Overflow raw }
+{
+    if raw.unsigned_abs() <= u128::from(LIMIT) {
+        Ok(Fixed { raw: raw as i64 })
+    } else {
+        Err(Arith::Overflow)
     }
 }

@@ -1,8 +1,14 @@
-//! Laws that show the definitions of rounding and of decimals to be the ones meant. Each stands on a function with an
-//! empty body; the function's clause is the law.
+//! Laws that show the definitions of rounding and of decimals, and the order of numbers, to be the ones meant. One
+//! stands on a function that compares two numbers, and each other on one with an empty body; the function's clause is
+//! the law.
 
 ghost use Rattle.pay_fixed.specs.Round.{RoundIsNearest};
 ghost use Rattle.pay_fixed.specs.Laws.{DecimalIsSpelled, DecimalReadsBack, DecimalHasFewestPlaces};
+ghost use Rattle.std.specs.Prelude.{◌≡◌};
+ghost use Rattle.std.specs.Ordering.{int_cmp};
+
+use crate::Fixed;
+use std::cmp::Ordering;
 
 /// `round` gives the nearest whole number, and of two that are as near the one farther from zero.
 pub fn round_is_nearest()
@@ -25,3 +31,10 @@ pub fn decimal_reads_back()
 pub fn decimal_has_fewest_places()
     ensures { DecimalHasFewestPlaces }
 {}
+
+/// The law of order: numbers compare as their raws do.
+pub fn numbers_compare_by_raw(first: Fixed, second: Fixed) -> Ordering
+    ensures { result ≡ int_cmp first second }
+{
+    first.cmp(&second)
+}

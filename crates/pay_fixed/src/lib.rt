@@ -1,16 +1,18 @@
 //! Numbers of the language: exact decimals with four places.
 //!
-//! A [`Fixed`] is a whole count (its *raw*) of 1/10,000 within -10^18 to 10^18. Sums are exact or answer
-//! [`Arith::Overflow`]; text is read by [`read_decimal`] and written by [`Fixed::write_decimal`].
-//! Whatever has to be rounded is rounded once, to the nearest raw, a half away from zero.
+//! A [`Fixed`] is a whole count (its *raw*) of 1/10,000 within -10^18 to 10^18. Sums are exact, products and quotients
+//! are rounded, and each answers [`Arith::Overflow`] exactly where it lies beyond the limit; a quotient answers
+//! [`Arith::ZeroDivisor`] before that where its divisor is zero. Text is read by [`read_decimal`] and written by
+//! [`Fixed::write_decimal`]. Whatever has to be rounded is rounded once, to the nearest raw, a half away from zero.
 //!
 //! Proved: each call is its definition in `specs/`; the module [`laws`] proves of these definitions that they are
-//! the ones meant.
+//! the ones meant, and of numbers that they compare as their raws do.
 #![tactic(auto)]
 
 mod fixed;
 pub mod laws;
 mod read;
+mod round;
 #[cfg(test)]
 mod tests;
 mod write;

@@ -4,7 +4,8 @@ ghost use Rattle.std.specs.Prelude.{◌≡◌, ◌+◌, ◌-◌, ◌*◌, ◌^�
 ghost use Rattle.std.specs.Option.{option_map};
 ghost use Rattle.pay_fixed.specs.Round.{limited};
 ghost use Rattle.pay_fixed.specs.Grammar.{AreDigits, number_on, signed, raw_of};
-ghost use Rattle.pay_fixed.specs.Reading.{after_blanks, all_blank, digits_at, after_digits, has_minus, after_sign, power_at, only_power, exponent_at, fraction_at, unsigned_at, signed_at};
+ghost use Rattle.pay_fixed.specs.Reading.{after_blanks, all_blank, digits_at, after_digits, has_minus, after_sign};
+ghost use Rattle.pay_fixed.specs.Reading.{power_at, only_power, exponent_at, fraction_at, unsigned_at, signed_at};
 ghost use Rattle.pay_fixed.specs.Parts.{reading, beyond, leading, shifted_length};
 ghost use Rattle.pay_fixed.specs.Decimal.{decimal_in};
 

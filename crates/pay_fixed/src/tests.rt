@@ -1,6 +1,7 @@
 //! Tests of the calls on numbers.
 
 use crate::{Arith, Fixed, NumberFault, laws, read_decimal};
+use std::cmp::Ordering;
 use std::test::Fail;
 
 // A text, and the raw that it spells or why there is none.
@@ -47,6 +48,95 @@ const RAWS: [(i64, &[u8]); 6] = [
     (1_203, b"0.1203"),
 ];
 
+// Two raws, and the raw of their product or why there is none.
+const PRODUCTS: [(i64, i64, Result<i64, Arith>); 18] = [
+    (20_000, 30_000, Ok(60_000)),
+    (12_500, -20_000, Ok(-25_000)),
+    (-1_000_000_000_000_000_000, 0, Ok(0)),
+    // 0.0001 by a half, and by a little less
+    (1, 5_000, Ok(1)),
+    (-1, 5_000, Ok(-1)),
+    (1, -5_000, Ok(-1)),
+    (-1, -5_000, Ok(1)),
+    (1, 4_999, Ok(0)),
+    (-1, 4_999, Ok(0)),
+    // two and a half raws
+    (5, 5_000, Ok(3)),
+    (-5, 5_000, Ok(-3)),
+    // the limit exactly, and a hundredth of a raw above it
+    (
+        1_000_000_000_000_000_000,
+        -10_000,
+        Ok(-1_000_000_000_000_000_000),
+    ),
+    (
+        999_900_009_999_000_100,
+        10_001,
+        Ok(1_000_000_000_000_000_000),
+    ),
+    // half a raw above the limit, and a whole one
+    (666_666_666_666_666_667, 15_000, Err(Arith::Overflow)),
+    (666_666_666_666_666_667, -15_000, Err(Arith::Overflow)),
+    (10_000_010_000, 999_999_000_001, Err(Arith::Overflow)),
+    (-10_000_010_000, 999_999_000_001, Err(Arith::Overflow)),
+    (
+        -1_000_000_000_000_000_000,
+        -1_000_000_000_000_000_000,
+        Err(Arith::Overflow),
+    ),
+];
+
+// A dividend and a divisor, and the raw of their quotient or why there is none.
+const QUOTIENTS: [(i64, i64, Result<i64, Arith>); 19] = [
+    (10_000, 30_000, Ok(3_333)),
+    (20_000, 30_000, Ok(6_667)),
+    (-20_000, 30_000, Ok(-6_667)),
+    (20_000, -30_000, Ok(-6_667)),
+    (-20_000, -30_000, Ok(6_667)),
+    (0, -30_000, Ok(0)),
+    // half a raw, a little less, and two and a half
+    (1, 20_000, Ok(1)),
+    (-1, 20_000, Ok(-1)),
+    (1, 20_001, Ok(0)),
+    (5, 20_000, Ok(3)),
+    (5, -20_000, Ok(-3)),
+    // the limit, and one raw above it
+    (
+        1_000_000_000_000_000_000,
+        10_000,
+        Ok(1_000_000_000_000_000_000),
+    ),
+    (
+        999_900_000_000_000_000,
+        -9_999,
+        Ok(-1_000_000_000_000_000_000),
+    ),
+    (999_900_000_000_000_001, 9_999, Err(Arith::Overflow)),
+    (999_900_000_000_000_001, -9_999, Err(Arith::Overflow)),
+    (-1_000_000_000_000_000_000, 1, Err(Arith::Overflow)),
+    // no divisor, under a dividend that overflows over the least one, and under others
+    (1_000_000_000_000_000_000, 0, Err(Arith::ZeroDivisor)),
+    (-1, 0, Err(Arith::ZeroDivisor)),
+    (0, 0, Err(Arith::ZeroDivisor)),
+];
+
+// Two raws, the smaller and the greater of them, and the magnitude and the negative of the first.
+const PAIRS: [(i64, i64, i64, i64, i64, i64); 6] = [
+    (1, 2, 1, 2, 1, -1),
+    (2, 1, 1, 2, 2, -2),
+    (-2, -1, -2, -1, 2, 2),
+    (-1, 2, -1, 2, 1, 1),
+    (0, -3, -3, 0, 0, 0),
+    (
+        -1_000_000_000_000_000_000,
+        1_000_000_000_000_000_000,
+        -1_000_000_000_000_000_000,
+        1_000_000_000_000_000_000,
+        1_000_000_000_000_000_000,
+        1_000_000_000_000_000_000,
+    ),
+];
+
 #[test]
 fn texts_are_read(rt: HostRuntime) -> Result<(), Fail> {
     for (text, wanted) in TEXTS {
@@ -80,6 +170,52 @@ fn sums_at_the_limit(rt: HostRuntime) -> Result<(), Fail> {
     let least = Fixed::from_raw(-1_000_000_000_000_000_000).ok_or("the negative limit")?;
     assert_eq!(rt; least.sub(one), Err(Arith::Overflow));
     assert!(rt; Fixed::from_raw(-1_000_000_000_000_000_001).is_none());
+    Ok(())
+}
+
+#[test]
+fn products_are_rounded(rt: HostRuntime) -> Result<(), Fail> {
+    for (first, second, wanted) in PRODUCTS {
+        let first = Fixed::from_raw(first).ok_or("within the limit")?;
+        let second = Fixed::from_raw(second).ok_or("within the limit")?;
+        assert_eq!(rt; first.mul(second).map(Fixed::raw), wanted);
+    }
+    Ok(())
+}
+
+#[test]
+fn quotients_are_rounded(rt: HostRuntime) -> Result<(), Fail> {
+    for (dividend, divisor, wanted) in QUOTIENTS {
+        let dividend = Fixed::from_raw(dividend).ok_or("within the limit")?;
+        let divisor = Fixed::from_raw(divisor).ok_or("within the limit")?;
+        assert_eq!(rt; dividend.div(divisor).map(Fixed::raw), wanted);
+    }
+    Ok(())
+}
+
+#[test]
+fn the_smaller_the_greater_and_signs(rt: HostRuntime) -> Result<(), Fail> {
+    for (first, second, smaller, greater, magnitude, negative) in PAIRS {
+        let first = Fixed::from_raw(first).ok_or("within the limit")?;
+        let second = Fixed::from_raw(second).ok_or("within the limit")?;
+        assert_eq!(rt; first.min(second).raw(), smaller);
+        assert_eq!(rt; first.max(second).raw(), greater);
+        assert_eq!(rt; first.abs().raw(), magnitude);
+        assert_eq!(rt; first.neg().raw(), negative);
+    }
+    Ok(())
+}
+
+#[test]
+fn numbers_are_compared(rt: HostRuntime) -> Result<(), Fail> {
+    let less = Fixed::from_raw(-2).ok_or("within the limit")?;
+    let greater = Fixed::from_raw(1).ok_or("within the limit")?;
+    assert_eq!(rt; laws::numbers_compare_by_raw(less, greater), Ordering::Less);
+    assert_eq!(rt; laws::numbers_compare_by_raw(less, less), Ordering::Equal);
+    assert_eq!(rt;
+        laws::numbers_compare_by_raw(greater, less),
+        Ordering::Greater
+    );
     Ok(())
 }
 
