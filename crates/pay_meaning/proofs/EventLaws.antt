@@ -1,5 +1,6 @@
 -- Events in order: that `in_order` gives the one order, and what a shared date is.
-use Rattle.std.proofs.Common.{◌≡◌, ◌≤◌, ◌<◌, Bool, true, false, cond, List, [], ◌∷◌, Some, None, ℤ, ◌≤ℤ◌, ◌<ℤ◌, refl, sym, ap, subst, ◌∙◌, ◌⊎◌, inl, inr, length, arith}
+use Rattle.std.proofs.Common.{◌≡◌, ◌≤◌, ◌<◌, Bool, true, false, cond, List, [], ◌∷◌, Some, None, ℤ, ◌≤ℤ◌, ◌<ℤ◌, refl, sym, ap, subst, ◌∙◌, ◌⊎◌, inl}
+use Rattle.std.proofs.Common.{inr, length, arith}
 use Rattle.std.proofs.lemmas.Bool.{cases_Bool}
 use Rattle.std.proofs.lemmas.Bool.Decides.{Decides-int_eq}
 use Rattle.std.proofs.lemmas.Int.{ints, by_lt_z}
@@ -23,7 +24,7 @@ eq-cases a b = elim (cases_Bool (int_eq a b)) [
   | inr miss ↦ inr (miss, λ same. let hit = (Decides-int_eq a b).1 same in cc)
 ]
 
--- each event behind a later number is behind an earlier one
+-- each event from a later number on is from an earlier one on
 from-weaker : (a b : ℤ) → a ≤ℤ b → (es : List Event) → AreFrom b es → AreFrom a es
 from-weaker a b h [] k = tt
 from-weaker a b h (e ∷ es) k = (omega (arith, ints, k.0), from-weaker a b h es k.1)

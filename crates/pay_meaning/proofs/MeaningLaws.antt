@@ -3,7 +3,8 @@ use Rattle.std.proofs.Common.{◌≡◌, List, [], ◌∷◌, ◌++◌, Option, 
 use Rattle.pay_dates.specs.declared.day.Day.{Day}
 use Rattle.pay_meaning.specs.declared.fault.FaultKind.{FaultKind}
 use Rattle.pay_meaning.specs.Language.{Event}
-use Rattle.pay_meaning.specs.Meaning.{Variables, fixing_at, Moment, moment_of, effect, Effect, Payment, Meaning, End, finished, faulted, meaning, event_then, after_earlier}
+use Rattle.pay_meaning.specs.Meaning.{Variables, fixing_at, Moment, moment_of, effect, Effect, Payment, Meaning, End, finished, faulted, meaning}
+use Rattle.pay_meaning.specs.Meaning.{event_then, after_earlier}
 use Rattle.pay_meaning.specs.Laws.{and_from_end, MeaningOfParts, MeaningReadsOwnDates}
 
 after-and : (p q : List Payment) (end : End) (rest : Variables → Meaning) → after_earlier p (and_from_end q end rest) ≡ and_from_end (p ++ q) end rest

@@ -17,7 +17,7 @@ number_of event = day_number event.date
 abbrev pub events_at : ℤ → List Event → List Event
 events_at number events = filter (λ event. int_eq (number_of event) number) events
 
--- an event among others, behind those that are earlier
+-- an event among others, after those that are earlier
 abbrev pub placed : Event → List Event → List Event
 placed event [] = event ∷ []
 placed event (first ∷ rest) = if int_lt (number_of first) (number_of event) then first ∷ placed event rest else event ∷ first ∷ rest

@@ -2,16 +2,25 @@
 use Rattle.std.specs.Prelude.{ℕ, ℤ, List}
 use Rattle.pay_dates.specs.declared.day.Day.{Day}
 
--- an operator with two sides
+-- an operator with two sides: a sum, a difference, a product, a quotient, the lesser or the greater of two
 pub data Operator : Type 0 where
   add : Operator
   subtract : Operator
+  multiply : Operator
+  divide : Operator
+  least : Operator
+  greatest : Operator
 
--- a number: a literal by its raw, a variable by its name, the fixing of the event's date, or two numbers under an operator
+-- a number: a literal by its raw, a variable by its name, the fixing of the event's date, the event's period or days,
+-- a number with its sign changed or without it, or two numbers under an operator
 pub data Number : Type 0 where
   literal : ℤ → Number
   variable : List ℕ → Number
   spot : Number
+  period : Number
+  days : Number
+  negative : Number → Number
+  absolute : Number → Number
   binary : Operator → Number → Number → Number
 
 -- a statement: a variable is given a value, or a leg is paid an amount
@@ -24,7 +33,7 @@ pub data Body : Type 0 where
   done : Body
   next : Statement → Body → Body
 
--- these statements, and one more behind them
+-- these statements, and one more after them
 abbrev pub and_then : Body → Statement → Body
 and_then done last = next last done
 and_then (next s rest) last = next s (and_then rest last)

@@ -23,14 +23,15 @@ AgreeOn (event ∷ rest) a b = (fixing_at a event.date ≡ fixing_at b event.dat
 
 -- a meaning reads the fixings at its events' dates alone
 abbrev pub MeaningReadsOwnDates : Type 0
-MeaningReadsOwnDates = (events : List Event) (variables : Variables) (a b : Fixings) → AgreeOn events a b → meaning events variables a ≡ meaning events variables b
+MeaningReadsOwnDates = (events : List Event) (variables : Variables) (a b : Fixings) → AgreeOn events a b
+    → meaning events variables a ≡ meaning events variables b
 
--- each of these events is on the date of this number or behind it
+-- each of these events is on the date of this number or a later one
 abbrev pub AreFrom : ℤ → List Event → Type 0
 AreFrom number [] = Unit {0}
 AreFrom number (event ∷ rest) = (number ≤ℤ number_of event) × AreFrom number rest
 
--- no event is later than one behind it
+-- no event is later than one after it
 abbrev pub IsRising : List Event → Type 0
 IsRising [] = Unit {0}
 IsRising (event ∷ rest) = AreFrom (number_of event) rest × IsRising rest

@@ -1,14 +1,16 @@
 -- What a script means: the payments that its events make in one scenario.
-use Rattle.std.specs.Prelude.{ℕ, ℤ, pos, ◌+ℤ◌, ◌-ℤ◌, List, [], ◌∷◌, ◌++◌, Option, Some, None, Result, Ok, Err, unwrap_or}
+use Rattle.std.specs.Prelude.{ℕ, ◌*◌, ℤ, pos, neg_ℤ, ◌+ℤ◌, ◌-ℤ◌, unsigned_abs, List, [], ◌∷◌, ◌++◌, Option, Some, None, Result, Ok, Err, unwrap_or}
 use Rattle.std.specs.Ordering.{nat_cmp, int_cmp}
 use Rattle.std.specs.Cmp.Lexicographic.{slice_cmp}
 use Rattle.std.specs.FinMap.{FinMap, empty, get, insert}
-use Rattle.pay_fixed.specs.Round.{limited}
+use Rattle.std.specs.Int.{int_min, int_max}
+use Rattle.pay_fixed.specs.Round.{limited, product, quotient}
 use Rattle.pay_dates.specs.Days.{day_number}
 use Rattle.pay_dates.specs.declared.day.Day.{Day}
-use Rattle.pay_meaning.specs.Language.{Operator, add, subtract, Number, literal, variable, spot, binary, Statement, assign, pay, Body, done, next, Event}
+use Rattle.pay_meaning.specs.Language.{Operator, add, subtract, multiply, divide, least, greatest, Number, literal, variable, spot, period, days}
+use Rattle.pay_meaning.specs.Language.{negative, absolute, binary, Statement, assign, pay, Body, done, next, Event}
 use Rattle.pay_meaning.specs.declared.fault.FaultKind.{FaultKind}
-use Rattle.pay_meaning.specs.declared.fault.FaultKind.TheVariants.{Overflow, MissingFixing}
+use Rattle.pay_meaning.specs.declared.fault.FaultKind.TheVariants.{Overflow, ZeroDivisor, MissingFixing}
 
 -- the raws of the variables that were assigned, by name
 abbrev pub Variables : Type 0
@@ -19,8 +21,8 @@ abbrev pub Fixings : Type 0
 Fixings = FinMap int_cmp ℤ
 
 -- the value of a variable; one that was never assigned is 0
-abbrev pub value_of : Variables → List ℕ → ℤ
-value_of variables name = unwrap_or (get variables name) (pos 0)
+abbrev pub lookup : Variables → List ℕ → ℤ
+lookup variables name = unwrap_or (get variables name) (pos 0)
 
 -- the fixing at a date, if there is one
 abbrev pub fixing_at : Fixings → Day → Option ℤ
@@ -36,15 +38,28 @@ pub record Moment : Type 0 where
 abbrev pub moment_of : Event → Fixings → Moment
 moment_of event fixings = record { date = event.date; fixing = fixing_at fixings event.date; period = event.period; days = event.days }
 
--- the raw of two raws under an operator, or Overflow where it is beyond the limit
+-- the raw of two raws under an operator: ZeroDivisor for a quotient by zero, else Overflow where it is beyond the limit
 abbrev pub calculated : Operator → ℤ → ℤ → Result ℤ FaultKind
 calculated add a b = limited Overflow (a +ℤ b)
 calculated subtract a b = limited Overflow (a -ℤ b)
+calculated multiply a b = product Overflow a b
+calculated divide a b = quotient Overflow ZeroDivisor a b
+calculated least a b = Ok (int_min a b)
+calculated greatest a b = Ok (int_max a b)
 
 -- a fixing, or the fault that it is missing
 abbrev pub known : Option ℤ → Result ℤ FaultKind
 known None = Err MissingFixing
 known (Some raw) = Ok raw
+
+-- the raw of a whole number: there are ten thousand to one
+abbrev pub whole : ℕ → ℤ
+whole n = pos (n * 10_000)
+
+-- the fault of one side, else the answer of its raw
+abbrev pub one : (ℤ → ℤ) → Result ℤ FaultKind → Result ℤ FaultKind
+one f (Err fault) = Err fault
+one f (Ok a) = Ok (f a)
 
 -- the left fault, else the right fault, else the answer of both
 abbrev pub both : {A B : Type 0} → (A → A → Result B FaultKind) → Result A FaultKind → Result A FaultKind → Result B FaultKind
@@ -55,8 +70,12 @@ both f (Ok a) (Ok b) = f a b
 -- the value of a number: a raw, or the first fault from left to right
 abbrev pub value : Number → Variables → Moment → Result ℤ FaultKind
 value (literal raw) variables at = Ok raw
-value (variable name) variables at = Ok (value_of variables name)
+value (variable name) variables at = Ok (lookup variables name)
 value spot variables at = known at.fixing
+value period variables at = Ok (whole at.period)
+value days variables at = Ok (whole at.days)
+value (negative a) variables at = one neg_ℤ (value a variables at)
+value (absolute a) variables at = one (λ raw. pos (unsigned_abs raw)) (value a variables at)
 value (binary op left right) variables at = both (calculated op) (value left variables at) (value right variables at)
 
 -- an amount that a leg is paid at a date

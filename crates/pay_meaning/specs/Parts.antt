@@ -1,0 +1,69 @@
+-- The parts of a script in the order of the text: its statements and the numbers in them; and the names that they use.
+use Rattle.std.specs.Prelude.{ℕ, Bool, true, false, List, [], ◌∷◌, ◌++◌, length, filter, Option, Some, None}
+use Rattle.std.specs.List.{flat_map}
+use Rattle.pay_meaning.specs.Language.{Number, literal, variable, spot, period, days, negative, absolute, binary, Statement, assign, pay, Body}
+use Rattle.pay_meaning.specs.Language.{done, next, Item, plain, Script}
+
+-- a part of a script: a statement, or a number of one
+pub data Part : Type 0 where
+  a_number : Number → Part
+  a_statement : Statement → Part
+
+-- a number, and then the parts of its sides from left to right
+abbrev pub number_parts : Number → List Part
+number_parts (literal raw) = a_number (literal raw) ∷ []
+number_parts (variable name) = a_number (variable name) ∷ []
+number_parts spot = a_number spot ∷ []
+number_parts period = a_number period ∷ []
+number_parts days = a_number days ∷ []
+number_parts (negative side) = a_number (negative side) ∷ number_parts side
+number_parts (absolute side) = a_number (absolute side) ∷ number_parts side
+number_parts (binary op left right) = a_number (binary op left right) ∷ (number_parts left ++ number_parts right)
+
+-- a statement, and then the parts of its number
+abbrev pub statement_parts : Statement → List Part
+statement_parts (assign name number) = a_statement (assign name number) ∷ number_parts number
+statement_parts (pay leg number) = a_statement (pay leg number) ∷ number_parts number
+
+abbrev pub body_parts : Body → List Part
+body_parts done = []
+body_parts (next statement rest) = statement_parts statement ++ body_parts rest
+
+abbrev pub item_parts : Item → List Part
+item_parts (plain date body) = body_parts body
+
+-- the parts of a script, in the order of the text
+abbrev pub script_parts : Script → List Part
+script_parts script = flat_map item_parts script
+
+-- a part that is a payment
+abbrev pub is_payment : Part → Bool
+is_payment (a_statement (pay leg number)) = true
+is_payment part = false
+
+-- how many payments there are among parts
+abbrev pub payment_count : List Part → ℕ
+payment_count parts = length (filter is_payment parts)
+
+-- what a name is used for: a variable is assigned or read, a leg is paid
+pub data Role : Type 0 where
+  as_variable : Role
+  as_leg : Role
+
+-- the name that a part itself uses so, if it does
+abbrev pub name_in : Role → Part → Option (List ℕ)
+name_in as_variable (a_number (variable name)) = Some name
+name_in as_variable (a_statement (assign name number)) = Some name
+name_in as_variable part = None
+name_in as_leg (a_statement (pay leg number)) = Some leg
+name_in as_leg part = None
+
+-- a list with this before it, where there is one
+abbrev pub with_name : Option (List ℕ) → List (List ℕ) → List (List ℕ)
+with_name None names = names
+with_name (Some name) names = name ∷ names
+
+-- the names that parts use so, in the order of the text, as often as they do
+abbrev pub names_in : Role → List Part → List (List ℕ)
+names_in role [] = []
+names_in role (part ∷ rest) = with_name (name_in role part) (names_in role rest)
