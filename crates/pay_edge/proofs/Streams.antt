@@ -15,7 +15,8 @@ took_more old mid new bytes done n fits first second =
     let joined = ap (λ l. take done bytes ++ l) (take-take n (length bytes - done) (drop done bytes) fits) ∙ sym (take-add done n bytes) in
     subst (Appends old new) joined (Appends-trans old mid new _ _ first second)
 
-joined_buffer : (buffer part : List ℕ) (done room n : ℕ) → done ≤ length buffer → n ≤ length part → take done buffer ++ take n part ≡ take (done + n) (put_mid done room buffer part)
+joined_buffer : (buffer part : List ℕ) (done room n : ℕ) → done ≤ length buffer → n ≤ length part
+    → take done buffer ++ take n part ≡ take (done + n) (put_mid done room buffer part)
 joined_buffer buffer part done room n within fits =
     let all = put_mid done room buffer part in
     let after = post_of done room buffer in
@@ -24,8 +25,9 @@ joined_buffer buffer part done room n within fits =
     ap (take n) (drop_at (take done buffer) (part ++ after) done (length-take-le done buffer within)) ∙ take-append-le n part after fits in
     sym (take-add done n all ∙ ap (λ l. l ++ take n (drop done all)) front ∙ ap (λ l. take done buffer ++ l) rest)
 
--- It gave the front of a buffer, and then some bytes behind it.
-pub gave_more : (old mid new : Option (List ℕ)) (buffer part : List ℕ) (done room n : ℕ) → done ≤ length buffer → n ≤ length part → Consumes old mid (take done buffer)
+-- It gave the front of a buffer, and then some bytes after it.
+pub gave_more : (old mid new : Option (List ℕ)) (buffer part : List ℕ) (done room n : ℕ) → done ≤ length buffer → n ≤ length part
+    → Consumes old mid (take done buffer)
     → Consumes mid new (take n part) → Consumes old new (take (done + n) (put_mid done room buffer part))
 gave_more old mid new buffer part done room n within fits first second =
     subst (Consumes old new) (joined_buffer buffer part done room n within fits) (Consumes-trans old mid new _ _ first second)

@@ -6,8 +6,8 @@ use Rattle.std.specs.declared.option.Option.{Option}
 use Rattle.pay_edge.specs.Edge.{Files, OnlyRead, SameBut}
 
 -- One depot was only read, twice.
-pub then_read : {D : Type 0} {told : D → Option Files} {reads : D → List ℕ → ℕ} {writes : D → ℕ} {a b c : D} → OnlyRead told reads writes a b → OnlyRead told reads writes b c
-    → OnlyRead told reads writes a c
+pub then_read : {D : Type 0} {told : D → Option Files} {reads : D → List ℕ → ℕ} {writes : D → ℕ} {a b c : D}
+    → OnlyRead told reads writes a b → OnlyRead told reads writes b c → OnlyRead told reads writes a c
 then_read {reads = reads} {a = a} {b = b} {c = c} p q = record {
   files = q.files ∙ p.files;
   write_faults = q.write_faults ∙ p.write_faults;

@@ -23,7 +23,8 @@ front_more None bytes buffer n fits front f = tt
 front_more (Some file) bytes buffer n fits front f = front_more-file file bytes buffer n fits front f
 
 -- and so does the file of a name, where the files are told
-pub begun_more : (told : Option Files) (name bytes buffer : List ℕ) (at n : ℕ) → at ≡ length bytes → n ≤ length buffer → IfSome told (λ files. IsBegun files name bytes)
+pub begun_more : (told : Option Files) (name bytes buffer : List ℕ) (at n : ℕ) → at ≡ length bytes → n ≤ length buffer
+    → IfSome told (λ files. IsBegun files name bytes)
     → IfSome told (λ files. IsSomeAnd (get files name) (λ file. Fetches file at n buffer)) → IfSome told (λ files. IsBegun files name (bytes ++ take n buffer))
 begun_more None name bytes buffer at n is fits front f = tt
 begun_more (Some files) name bytes buffer at n is fits front f =

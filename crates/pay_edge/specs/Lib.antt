@@ -1,5 +1,5 @@
 pub mod Edge
-pub mod Kept
+pub mod Failures
 pub mod MemoryDepot
 pub mod MemorySink
 pub mod Outside

@@ -5,7 +5,7 @@ use Rattle.std.specs.declared.option.Option.TheVariants.{Some}
 use Rattle.std.specs.String.{string_bytes}
 use Rattle.std.specs.FinMap.{from_entries, empty}
 use Rattle.pay_edge.specs.Edge.{Files}
-use Rattle.pay_edge.specs.Kept.{count_of, is_planned}
+use Rattle.pay_edge.specs.Failures.{count_of, is_planned}
 use Rattle.pay_edge.specs.declared.memory_depot.Entry.{Entry}
 use Rattle.pay_edge.specs.declared.memory_depot.MemoryDepot.{MemoryDepot}
 

@@ -2,7 +2,7 @@
 use Rattle.std.specs.Prelude.{◌≡◌, ℕ, ◌+◌, Bool, ◌||◌, List, [], length, nat_lt}
 use Rattle.std.specs.declared.option.Option.{Option}
 use Rattle.std.specs.declared.option.Option.TheVariants.{Some}
-use Rattle.pay_edge.specs.Kept.{is_planned}
+use Rattle.pay_edge.specs.Failures.{is_planned}
 use Rattle.pay_edge.specs.declared.memory_sink.MemorySink.{MemorySink}
 
 -- all bytes put

@@ -7,8 +7,8 @@
 #![tactic(auto)]
 
 mod depot;
+mod failures;
 mod file_depot;
-mod kept;
 mod memory_depot;
 mod memory_sink;
 mod sink;

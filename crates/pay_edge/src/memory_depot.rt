@@ -1,13 +1,15 @@
 //! A depot in memory, which fails where it is asked to.
 
-ghost use Rattle.std.specs.Prelude.{◌≡◌, ◌⊎◌, ◌<◌, ◌≤◌, ◌∷◌, ◌+◌, ◌-◌, min, length, drop, IfOk, OnOk, OnErr, IsErr, IsErrOf, IfSome, IsSomeAnd, IsTrue, IsFalse};
+ghost use Rattle.std.specs.Prelude.{◌≡◌, ◌⊎◌, ◌<◌, ◌≤◌, ◌∷◌, ◌+◌, ◌-◌, min, length, drop, IsTrue, IsFalse};
+ghost use Rattle.std.specs.Prelude.{IfOk, OnOk, OnErr, IsErr, IsErrOf, IfSome, IsSomeAnd};
 ghost use Rattle.std.specs.Option.{option_map};
 ghost use Rattle.std.specs.FinMap as map;
 ghost use Rattle.pay_edge.specs.Edge.{Rose, one_more, OnlyRead, SameBut, Fetches, IsAbsent, SameOthers, replaced};
-ghost use Rattle.pay_edge.specs.MemoryDepot.{memory_files, memory_told, memory_read_faults, memory_write_faults, memory_fetches, memory_replaces, planned_fetches, planned_replaces, fails_fetch, fails_replace, IsNewDepot, SameCounts, SamePlans};
+ghost use Rattle.pay_edge.specs.MemoryDepot.{memory_files, memory_told, memory_read_faults, memory_write_faults, memory_fetches, memory_replaces};
+ghost use Rattle.pay_edge.specs.MemoryDepot.{planned_fetches, planned_replaces, fails_fetch, fails_replace, IsNewDepot, SameCounts, SamePlans};
 
 use crate::depot::{Depot, FetchFault, NoMemory, ReplaceFault};
-use crate::kept::{next_is_planned, note_failure};
+use crate::failures::{next_is_planned, note_failure};
 use std::alloc::Global;
 
 /// A depot in memory. It tells its files. Its calls fail where that was asked for, and else only for want of memory. A

@@ -5,7 +5,7 @@ ghost use Rattle.std.specs.Vec.{vec_capacity};
 ghost use Rattle.pay_edge.specs.Edge.{Rose, one_more, appended, AppendsFront};
 
 use crate::depot::NoMemory;
-use crate::kept::next_is_planned;
+use crate::failures::next_is_planned;
 use crate::sink::{Failed, Sink};
 use std::alloc::Global;
 

@@ -54,6 +54,9 @@ impl From<FetchFault> for WholeFault {
 /// It fetches from the front with a buffer of 65,536 bytes, until no bytes come or they are more than the limit. So
 /// it fetches at most `limit + 1` times.
 ///
+/// Where the depot tells its files, the bytes are those of the file, from the front to the end. Of a depot that doesn't
+/// tell them, it is promised only that the bytes are no more than the limit.
+///
 /// # Errors
 ///
 /// `Absent` where the depot tells its files and this one is not there, `Failed` where a fetch failed, `TooLong` where

@@ -56,4 +56,5 @@ returns-in_err-read_more-clause-absent g c =
 pub returns-in_err-read_more-clause-failed : goal.returns-in_err-read_more-clause-failed
 returns-in_err-read_more-clause-failed g c =
     let p = err_from_is_err_and c.from_residual-in_err-read_more.result c.from_residual-in_err-read_more.ensures.1 in
-    rw (p.1, p.2) (λ is. let rose = c.in_err-read_more.ensures.failed (same_fault is) in omega (arith, c.loop-bytes.invariant.reads.later c.args.name.now, rose))
+    rw (p.1, p.2) (λ is. let rose = c.in_err-read_more.ensures.failed (same_fault is) in
+    omega (arith, c.loop-bytes.invariant.reads.later c.args.name.now, rose))

@@ -1,7 +1,7 @@
 //! Names whose reads failed, and numbers of calls that are to fail.
 
 ghost use Rattle.std.specs.Prelude.{◌≡◌, ◌∷◌, OnOk, OnErr};
-ghost use Rattle.pay_edge.specs.Kept.{IsNoted, is_planned};
+ghost use Rattle.pay_edge.specs.Failures.{IsNoted, is_planned};
 
 use crate::depot::NoMemory;
 use std::alloc::Global;
