@@ -1,3 +1,3 @@
 -- What the contracts of `pay_tree` cite.
-pub mod Names
 pub mod Views
+pub mod Text

@@ -1,8 +1,12 @@
--- The trees of a script as the plain data of the language.
+-- The trees of a script as the plain data of the language. What the code calls `Expr`, `Stmt`, `Unary` and `Binary` is a number, a statement
+-- and an operator here; a tree's `Number` is a literal, and its `Name` a variable.
 use Rattle.std.specs.Prelude.{List, [], ◌∷◌, map}
-use Rattle.pay_meaning.specs.Language.{Operator, add, subtract, Number, literal, variable, spot, binary, Statement, assign, pay, Body, done, next, Event, Item, plain, Script}
+use Rattle.pay_meaning.specs.Language.{Operator, add, subtract, multiply, divide, least, greatest, Number, literal, variable, spot, period, days}
+use Rattle.pay_meaning.specs.Language.{negative, absolute, binary, Statement, assign, pay, Body, done, next, Event, Item, plain, Script}
 use Rattle.pay_tree.specs.declared.tree.Binary.{Binary}
-use Rattle.pay_tree.specs.declared.tree.Binary.TheVariants.{Add, Sub}
+use Rattle.pay_tree.specs.declared.tree.Binary.TheVariants.{Add, Sub, Mul, Div, Min, Max}
+use Rattle.pay_tree.specs.declared.tree.Unary.{Unary}
+use Rattle.pay_tree.specs.declared.tree.Unary.TheVariants.{Neg, Abs}
 use Rattle.pay_tree.specs.declared.tree.Expr.{Expr}
 use Rattle.pay_tree.specs.declared.tree.Expr.TheOpen.{Expr-F}
 use Rattle.pay_tree.specs.declared.tree.Expr.TheFolds.{fold-Expr}
@@ -17,12 +21,24 @@ use Rattle.pay_tree.specs.declared.tree.NamedEvent.{NamedEvent}
 abbrev pub operator : Binary → Operator
 operator Add = add
 operator Sub = subtract
+operator Mul = multiply
+operator Div = divide
+operator Min = least
+operator Max = greatest
+
+-- the number that a number under an operator of a tree is
+abbrev pub signed : Unary → Number → Number
+signed Neg number = negative number
+signed Abs number = absolute number
 
 -- the number that an expression is, given those of its sides
 abbrev pub number_part : Expr-F Number → Number
 number_part (Expr-F.Number raw) = literal raw
 number_part (Expr-F.Name name) = variable name
 number_part Expr-F.Spot = spot
+number_part Expr-F.Period = period
+number_part Expr-F.Days = days
+number_part (Expr-F.Unary op side) = signed op side.value
 number_part (Expr-F.Binary op left right) = binary (operator op) left.value right.value
 
 -- the number that an expression is

@@ -4,9 +4,11 @@
 #![tactic(auto)]
 
 mod name;
+mod print;
 #[cfg(test)]
 mod tests;
 mod tree;
 
-pub use name::{Name, NameFault, is_digit, is_letter};
-pub use tree::{Binary, Expr, Item, NamedEvent, Script, Stmt};
+pub use name::{Name, NameFault};
+pub use print::print_script;
+pub use tree::{Binary, Expr, Item, NamedEvent, Script, Stmt, Unary};

@@ -3,7 +3,7 @@
 ghost use Rattle.std.specs.Prelude.{◌≡◌, ◌||◌, IfOk, OnOk, IsErrOf};
 ghost use Rattle.std.specs.List.{list_all, list_any};
 ghost use Rattle.std.specs.Str.{bytes_eq};
-ghost use Rattle.pay_tree.specs.Names.{IsName, is_letter, is_digit, is_lower_word, is_keyword, is_name};
+ghost use Rattle.pay_meaning.specs.Words.{IsName, is_letter, is_digit, is_lower_word, is_keyword, is_name};
 
 use pay_fixed::NoMemory;
 use std::alloc::{AllocError, Global};
@@ -24,7 +24,7 @@ pub struct Name {
 
 impl Model for Name {
     ghost use Rattle.std.specs.Prelude.{ℕ, List};
-    ghost use Rattle.pay_tree.specs.Names.{is_name, IsName};
+    ghost use Rattle.pay_meaning.specs.Words.{is_name, IsName};
 
     ghost Value = { List ℕ };
 
@@ -54,27 +54,27 @@ impl From<AllocError> for NameFault {
 }
 
 /// Whether the byte is a lower-case ASCII letter or `_`.
-pub fn is_letter(byte: u8) -> bool
+fn is_letter(byte: u8) -> bool
     ensures { result ≡ is_letter byte }
 {
     (b'a' <= byte && byte <= b'z') || byte == b'_'
 }
 
 /// Whether the byte is an ASCII digit.
-pub fn is_digit(byte: u8) -> bool
+fn is_digit(byte: u8) -> bool
     ensures { result ≡ is_digit byte }
 {
     b'0' <= byte && byte <= b'9'
 }
 
-/// Whether the byte may stand in a word behind its first byte.
+/// Whether the byte may stand in a word after its first byte.
 fn is_word_byte(byte: u8) -> bool
     ensures { result ≡ (is_letter byte || is_digit byte) }
 {
     is_letter(byte) || is_digit(byte)
 }
 
-/// Whether all of these bytes may stand behind the first byte of a word.
+/// Whether all of these bytes may stand after the first byte of a word.
 fn are_word_bytes(bytes: &[u8]) -> bool
     ensures { result ≡ list_all (λ byte. is_letter byte || is_digit byte) bytes.now }
 {
@@ -119,7 +119,7 @@ const KEYWORDS: [&[u8]; 23] = [
 ];
 
 /// Whether the language keeps the word for itself.
-#[tactic(auto, unfolding(crate::specs::Names::is_keyword))]
+#[tactic(auto, unfolding(pay_meaning::specs::Words::is_keyword))]
 fn is_keyword(word: &[u8]) -> bool
     ensures { result ≡ is_keyword word.now }
 {
@@ -135,7 +135,7 @@ fn is_among(words: &[&[u8]], word: &[u8]) -> bool
 }
 
 /// Whether the bytes are a name: at most 64 of them, a lower-case word, and no keyword.
-#[tactic(auto, unfolding(crate::specs::Names::is_name))]
+#[tactic(auto, unfolding(pay_meaning::specs::Words::is_name))]
 fn is_name(bytes: &[u8]) -> bool
     ensures { result ≡ is_name bytes.now }
 {

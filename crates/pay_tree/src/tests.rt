@@ -1,6 +1,9 @@
-//! Tests of the calls on names.
+//! Tests of the calls on names, and of the canonical text.
 
-use crate::{Name, NameFault};
+use crate::{Binary, Expr, Item, Name, NameFault, Script, Stmt, Unary, print_script};
+use pay_dates::Day;
+use pay_fixed::Fixed;
+use std::alloc::Global;
 use std::cmp::Ordering;
 use std::test::Fail;
 
@@ -46,5 +49,83 @@ fn names_are_compared_by_their_bytes(rt: HostRuntime) -> Result<(), Fail> {
     assert!(rt; pay != spread);
     assert!(rt; pay == pay.copy(rt.alloc())?);
     assert_eq!(rt; pay.cmp(&spread), Ordering::Less);
+    Ok(())
+}
+
+// A number in raws of 1/10,000.
+fn number(raw: i64) -> Result<Expr, Fail> {
+    Ok(Expr::Number(Fixed::from_raw(raw).ok_or("within the limit")?))
+}
+
+fn variable(alloc: Global, name: &[u8]) -> Result<Expr, Fail> {
+    Ok(Expr::Name(Name::read(alloc, name)?))
+}
+
+fn unary(alloc: Global, op: Unary, side: Expr) -> Result<Expr, Fail> {
+    Ok(Expr::Unary(op, Box::new(alloc, side)?))
+}
+
+fn binary(alloc: Global, op: Binary, left: Expr, right: Expr) -> Result<Expr, Fail> {
+    Ok(Expr::Binary(op, Box::new(alloc, left)?, Box::new(alloc, right)?))
+}
+
+// The numbers of the lines below, in their order.
+fn numbers(alloc: Global) -> Result<Vec<Expr>, Fail> {
+    let mut numbers = Vec::new(alloc);
+    let sum = binary(alloc, Binary::Add, number(10_000)?, number(20_000)?)?;
+    let product = binary(
+        alloc,
+        Binary::Mul,
+        unary(alloc, Unary::Neg, sum)?,
+        variable(alloc, b"x")?,
+    )?;
+    numbers.push(binary(alloc, Binary::Sub, product, number(30_000)?)?)?;
+    numbers.push(unary(alloc, Unary::Neg, unary(alloc, Unary::Neg, number(5_000)?)?)?)?;
+    let least = binary(alloc, Binary::Min, variable(alloc, b"a")?, number(125_000)?)?;
+    numbers.push(binary(alloc, Binary::Min, least, number(1)?)?)?;
+    numbers.push(binary(
+        alloc,
+        Binary::Max,
+        unary(alloc, Unary::Abs, Expr::Spot)?,
+        number(0)?,
+    )?)?;
+    numbers.push(binary(alloc, Binary::Div, Expr::Period, Expr::Days)?)?;
+    Ok(numbers)
+}
+
+const LINES: &[u8] = b"@2024-06-28
+  x = ((-(1 + 2) * x) - 3);
+  x = --0.5;
+  x = min(min(a, 12.5), 0.0001);
+  x = max(abs(spot()), 0);
+  x = (period() / days());
+  x pays 1;
+@2024-06-29
+";
+
+#[test]
+fn a_script_is_printed_in_lines(rt: HostRuntime) -> Result<(), Fail> {
+    let alloc = rt.alloc();
+    let mut body = Vec::new(alloc);
+    for value in numbers(alloc)? {
+        let name = Name::read(alloc, b"x")?;
+        body.push(Stmt::Assign { name, value })?;
+    }
+    let leg = Name::read(alloc, b"x")?;
+    body.push(Stmt::Pay {
+        leg,
+        amount: number(10_000)?,
+    })?;
+    let mut items = Vec::new(alloc);
+    items.push(Item::Plain {
+        date: Day::new(2024, 6, 28).ok_or("a day")?,
+        body,
+    })?;
+    items.push(Item::Plain {
+        date: Day::new(2024, 6, 29).ok_or("a day")?,
+        body: Vec::new(alloc),
+    })?;
+    let text = print_script(alloc, &Script { items })?;
+    assert_eq!(rt; text.as_slice(), LINES);
     Ok(())
 }

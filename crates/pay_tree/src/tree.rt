@@ -4,6 +4,15 @@ use crate::name::Name;
 use pay_dates::Day;
 use pay_fixed::Fixed;
 
+/// An operator with one side.
+#[derive(Clone, Copy, PartialEq, Eq, Debug)]
+pub enum Unary {
+    /// `-number`.
+    Neg,
+    /// `abs(number)`.
+    Abs,
+}
+
 /// An operator with two sides.
 #[derive(Clone, Copy, PartialEq, Eq, Debug)]
 pub enum Binary {
@@ -11,6 +20,14 @@ pub enum Binary {
     Add,
     /// `left - right`.
     Sub,
+    /// `left * right`.
+    Mul,
+    /// `left / right`.
+    Div,
+    /// `min(left, right)`.
+    Min,
+    /// `max(left, right)`.
+    Max,
 }
 
 /// A number, as it is written.
@@ -22,6 +39,12 @@ pub enum Expr {
     Name(Name),
     /// `spot()`, the fixing at the event's date.
     Spot,
+    /// `period()`, the event's place in its schedule, 0 in a plain item.
+    Period,
+    /// `days()`, the days since the date before in its schedule, 0 in a plain item.
+    Days,
+    /// A number under an operator.
+    Unary(Unary, Box<Expr>),
     /// Two numbers under an operator, the left one first.
     Binary(Binary, Box<Expr>, Box<Expr>),
 }
