@@ -1,0 +1,9 @@
+pub mod FrontLemmas
+pub mod TokenLemmas
+pub mod LexingLemmas
+pub mod LawLemmas
+pub mod LexerLemmas
+pub mod CauseLemmas
+pub mod TokenForms
+pub mod TextPieces
+pub mod WholeLemmas

@@ -1,0 +1,13 @@
+use Rattle.std.proofs.Common.{◌≡◌, ◌+◌, length}
+use Rattle.pay_lexer.specs.Lexing.{word_rest}
+use Rattle.pay_lexer.proofs.lexer.word_length.Given as goal
+
+-- what was counted and what is left make up the text and its front
+abbrev pub invariant-loop-rest : goal.invariant-loop-rest
+invariant-loop-rest l = record {
+  counted : l.count + length l.rest ≡ length l.text;
+  value : length (word_rest l.text) ≡ l.count + length (word_rest l.rest);
+}
+
+abbrev pub decreases-loop-rest : goal.decreases-loop-rest
+decreases-loop-rest l = length l.rest
