@@ -1,0 +1,139 @@
+-- The brackets that are open in the canonical text of a script: in a statement at most one more than it has operators.
+use Rattle.std.proofs.Common.{◌≡◌, ℕ, zero, suc, ◌+◌, ◌≤◌, max, List, [], ◌∷◌, ◌++◌, if◌then◌else◌, refl, append_assoc, arith}
+use Rattle.pay_lexer.specs.declared.token.Sign.TheVariants as sign
+use Rattle.pay_lexer.specs.declared.token.TokenKind.{TokenKind}
+use Rattle.pay_lexer.specs.declared.token.TokenKind.TheVariants as token
+use Rattle.pay_meaning.specs.Language.{Operator, add, subtract, multiply, divide, least, greatest, Number, literal, variable, spot, period, days}
+use Rattle.pay_meaning.specs.Language.{negative, absolute, binary, Statement, assign, pay, Body, done, next, Item, plain, Script}
+use Rattle.pay_parser.specs.TokenLimits.{is_open_bracket, is_closing_bracket}
+use Rattle.pay_parser.proofs.CanonicalTokens.{binary_tokens, number_tokens, statement_tokens, body_tokens, item_tokens, script_tokens}
+use Rattle.pay_parser.proofs.OperatorCounts.{operators_on, statement_operators, body_operators, item_operators, script_operators}
+
+-- one less, or none
+abbrev pub one_less : ℕ → ℕ
+one_less zero = zero
+one_less (suc n) = n
+
+-- so many brackets are open with one more token
+abbrev pub opened : ℕ → TokenKind → ℕ
+opened n t = if is_open_bracket t then suc n else (if is_closing_bracket t then one_less n else n)
+
+-- after each of these tokens at most so many brackets are open
+abbrev pub StaysWithin : ℕ → ℕ → List TokenKind → Type 0
+StaysWithin most n [] = Unit {0}
+StaysWithin most n (t ∷ ts) = (opened n t ≤ most) × StaysWithin most (opened n t) ts
+
+-- the most brackets that are open in a number
+abbrev pub depth : Number → ℕ
+depth (literal raw) = 0
+depth (variable name) = 0
+depth spot = 1
+depth period = 1
+depth days = 1
+depth (negative side) = depth side
+depth (absolute side) = suc (depth side)
+depth (binary op left right) = suc (max (depth left) (depth right))
+
+operators_grow : (n : Number) (k : ℕ) → k ≤ operators_on k n
+operators_grow (literal raw) k = omega arith
+operators_grow (variable name) k = omega arith
+operators_grow spot k = omega arith
+operators_grow period k = omega arith
+operators_grow days k = omega arith
+operators_grow (negative side) k = let more = operators_grow side (suc k) in omega arith
+operators_grow (absolute side) k = let more = operators_grow side (suc k) in omega arith
+operators_grow (binary op left right) k =
+    let first = operators_grow left k in
+    let second = operators_grow right (suc (operators_on k left)) in
+    omega arith
+
+-- each bracket but that of a word alone has an operator of its own
+depth_operators : (n : Number) (k : ℕ) → k + depth n ≤ suc (operators_on k n)
+depth_operators (literal raw) k = omega arith
+depth_operators (variable name) k = omega arith
+depth_operators spot k = omega arith
+depth_operators period k = omega arith
+depth_operators days k = omega arith
+depth_operators (negative side) k = let h = depth_operators side (suc k) in omega arith
+depth_operators (absolute side) k = let h = depth_operators side (suc k) in omega arith
+depth_operators (binary op left right) k =
+    let a = depth_operators left k in
+    let b = depth_operators right (suc (operators_on k left)) in
+    let first = operators_grow left k in
+    let second = operators_grow right (suc (operators_on k left)) in
+    omega arith
+
+-- two numbers in a bracket that is open already, the sign between them, and the closing bracket
+pair_stays : (most n : ℕ) (t : TokenKind) (ts us rest : List TokenKind) → opened (suc n) t ≡ suc n → suc n ≤ most
+    → ((more : List TokenKind) → StaysWithin most (suc n) more → StaysWithin most (suc n) (ts ++ more))
+    → ((more : List TokenKind) → StaysWithin most (suc n) more → StaysWithin most (suc n) (us ++ more))
+    → StaysWithin most n rest → StaysWithin most (suc n) (((ts ++ t ∷ us) ++ token.Sign sign.ParenRight ∷ []) ++ rest)
+pair_stays most n t ts us rest same small first second h =
+    let closing : StaysWithin most (suc n) (us ++ token.Sign sign.ParenRight ∷ rest) = second (token.Sign sign.ParenRight ∷ rest) (omega arith, h) in
+    let between : StaysWithin most (suc n) (t ∷ (us ++ token.Sign sign.ParenRight ∷ rest)) = rw same (small, closing) in
+    let all = first (t ∷ (us ++ token.Sign sign.ParenRight ∷ rest)) between in
+    simp append_assoc all
+
+-- the same with other brackets round the parts
+regrouped : (most n : ℕ) (ts us rest : List TokenKind) → StaysWithin most n (ts ++ (us ++ rest)) → StaysWithin most n ((ts ++ us) ++ rest)
+regrouped most n ts us rest h = rw append_assoc h
+
+-- two numbers under an operator close all brackets that they open, if each of them does
+binary_stays : (op : Operator) (most n : ℕ) (ts us rest : List TokenKind) → suc n ≤ most
+    → ((more : List TokenKind) → StaysWithin most (suc n) more → StaysWithin most (suc n) (ts ++ more))
+    → ((more : List TokenKind) → StaysWithin most (suc n) more → StaysWithin most (suc n) (us ++ more))
+    → StaysWithin most n rest → StaysWithin most n (binary_tokens op ts us ++ rest)
+binary_stays add most n ts us rest small first second h = (omega arith, pair_stays most n (token.Sign sign.Plus) ts us rest refl small first second h)
+binary_stays subtract most n ts us rest small first second h = (omega arith, pair_stays most n (token.Sign sign.Minus) ts us rest refl small first second h)
+binary_stays multiply most n ts us rest small first second h = (omega arith, pair_stays most n (token.Sign sign.Star) ts us rest refl small first second h)
+binary_stays divide most n ts us rest small first second h = (omega arith, pair_stays most n (token.Sign sign.Slash) ts us rest refl small first second h)
+binary_stays least most n ts us rest small first second h =
+    (omega arith, (omega arith, pair_stays most n (token.Sign sign.Comma) ts us rest refl small first second h))
+binary_stays greatest most n ts us rest small first second h =
+    (omega arith, (omega arith, pair_stays most n (token.Sign sign.Comma) ts us rest refl small first second h))
+
+-- the tokens of a number close all brackets that they open
+number_stays : (most : ℕ) (number : Number) (n : ℕ) (rest : List TokenKind) → n + depth number ≤ most → StaysWithin most n rest
+    → StaysWithin most n (number_tokens number ++ rest)
+number_stays most (literal raw) n rest small h = (omega arith, h)
+number_stays most (variable name) n rest small h = (omega arith, h)
+number_stays most spot n rest small h = (omega arith, (omega arith, (omega arith, h)))
+number_stays most period n rest small h = (omega arith, (omega arith, (omega arith, h)))
+number_stays most days n rest small h = (omega arith, (omega arith, (omega arith, h)))
+number_stays most (negative side) n rest small h = (omega arith, number_stays most side n rest small h)
+number_stays most (absolute side) n rest small h =
+    let inner : StaysWithin most (suc n) (number_tokens side ++ token.Sign sign.ParenRight ∷ rest) =
+    number_stays most side (suc n) (token.Sign sign.ParenRight ∷ rest) (omega arith) (omega arith, h) in
+    (omega arith, (omega arith, regrouped most (suc n) (number_tokens side) (token.Sign sign.ParenRight ∷ []) rest inner))
+number_stays most (binary op left right) n rest small h =
+    binary_stays op most n (number_tokens left) (number_tokens right) rest (omega arith)
+    (λ more k. number_stays most left (suc n) more (omega arith) k) (λ more k. number_stays most right (suc n) more (omega arith) k) h
+
+statement_stays : (most : ℕ) (s : Statement) (rest : List TokenKind) → suc (statement_operators s) ≤ most → StaysWithin most 0 rest
+    → StaysWithin most 0 (statement_tokens s ++ rest)
+statement_stays most (assign name number) rest small h =
+    let d = depth_operators number 1 in
+    let line : StaysWithin most 0 (number_tokens number ++ token.Sign sign.Semicolon ∷ rest) =
+    number_stays most number 0 (token.Sign sign.Semicolon ∷ rest) (omega arith) (omega arith, h) in
+    (omega arith, (omega arith, regrouped most 0 (number_tokens number) (token.Sign sign.Semicolon ∷ []) rest line))
+statement_stays most (pay leg number) rest small h =
+    let d = depth_operators number 0 in
+    let line : StaysWithin most 0 (number_tokens number ++ token.Sign sign.Semicolon ∷ rest) =
+    number_stays most number 0 (token.Sign sign.Semicolon ∷ rest) (omega arith) (omega arith, h) in
+    (omega arith, (omega arith, regrouped most 0 (number_tokens number) (token.Sign sign.Semicolon ∷ []) rest line))
+
+body_stays : (most : ℕ) (b : Body) (rest : List TokenKind) → suc (body_operators b) ≤ most → StaysWithin most 0 rest
+    → StaysWithin most 0 (body_tokens b ++ rest)
+body_stays most done rest small h = h
+body_stays most (next statement others) rest small h =
+    regrouped most 0 (statement_tokens statement) (body_tokens others) rest
+    (statement_stays most statement (body_tokens others ++ rest) (omega arith) (body_stays most others rest (omega arith) h))
+
+item_stays : (most : ℕ) (i : Item) (rest : List TokenKind) → suc (item_operators i) ≤ most → StaysWithin most 0 rest
+    → StaysWithin most 0 (item_tokens i ++ rest)
+item_stays most (plain date body) rest small h = (omega arith, body_stays most body rest small h)
+
+-- in the canonical tokens of a script at most one bracket more is open than a statement has operators
+pub script_stays : (most : ℕ) (s : Script) → suc (script_operators s) ≤ most → StaysWithin most 0 (script_tokens s)
+script_stays most [] small = tt
+script_stays most (item ∷ rest) small = item_stays most item (script_tokens rest) (omega arith) (script_stays most rest (omega arith))

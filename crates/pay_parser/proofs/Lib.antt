@@ -1,0 +1,17 @@
+pub mod ScriptComplete
+pub mod ScriptSound
+pub mod DepthLemmas
+pub mod CanonicalTokens
+pub mod Written
+pub mod CanonicalLexed
+pub mod OperatorCounts
+pub mod BracketCounts
+pub mod IfMarks
+pub mod CanonicalSizes
+pub mod CanonicalDepths
+pub mod Canonical
+pub mod FirstLemmas
+pub mod StackLemmas
+pub mod BodyLemmas
+pub mod SignLemmas
+pub mod DepthSteps

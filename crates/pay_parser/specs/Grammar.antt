@@ -1,0 +1,83 @@
+-- The grammar of scripts: which tokens spell which number, statement, item and script, over all ways to cut the tokens.
+use Rattle.std.specs.Prelude.{ℕ, ℤ, List, [], ◌∷◌, ◌++◌}
+use Rattle.pay_dates.specs.declared.day.Day.{Day}
+use Rattle.pay_fixed.specs.Grammar.{SpellsRaw}
+use Rattle.pay_lexer.specs.declared.token.Key.TheVariants as key
+use Rattle.pay_lexer.specs.declared.token.Sign.TheVariants as sign
+use Rattle.pay_lexer.specs.declared.token.TokenKind.{TokenKind}
+use Rattle.pay_lexer.specs.declared.token.TokenKind.TheVariants as token
+use Rattle.pay_meaning.specs.Language.{Operator, add, subtract, multiply, divide, least, greatest, Number, literal, variable, spot, period, days}
+use Rattle.pay_meaning.specs.Language.{negative, absolute, binary, Statement, assign, pay, Body, done, and_then, Item, plain, Script}
+use Rattle.pay_meaning.specs.Words.{IsName}
+
+-- these tokens in brackets
+abbrev pub bracketed : List TokenKind → List TokenKind
+bracketed ts = token.Sign sign.ParenLeft ∷ (ts ++ token.Sign sign.ParenRight ∷ [])
+
+mutual
+  -- terms under `+` and `-`, grouped to the left
+  pub data SpellsNumber : List TokenKind → Number → Type 0 where
+    one_term : (ts : List TokenKind) (n : Number) → SpellsTerm ts n → SpellsNumber ts n
+    plus : (ts us : List TokenKind) (a b : Number) → SpellsNumber ts a → SpellsTerm us b → SpellsNumber (ts ++ token.Sign sign.Plus ∷ us) (binary add a b)
+    minus : (ts us : List TokenKind) (a b : Number) → SpellsNumber ts a → SpellsTerm us b
+        → SpellsNumber (ts ++ token.Sign sign.Minus ∷ us) (binary subtract a b)
+
+  -- factors under `*` and `/`, grouped to the left
+  pub data SpellsTerm : List TokenKind → Number → Type 0 where
+    one_factor : (ts : List TokenKind) (n : Number) → SpellsFactor ts n → SpellsTerm ts n
+    times : (ts us : List TokenKind) (a b : Number) → SpellsTerm ts a → SpellsFactor us b → SpellsTerm (ts ++ token.Sign sign.Star ∷ us) (binary multiply a b)
+    over : (ts us : List TokenKind) (a b : Number) → SpellsTerm ts a → SpellsFactor us b → SpellsTerm (ts ++ token.Sign sign.Slash ∷ us) (binary divide a b)
+
+  -- an atom with any number of minus signs before it
+  pub data SpellsFactor : List TokenKind → Number → Type 0 where
+    one_atom : (ts : List TokenKind) (n : Number) → SpellsAtom ts n → SpellsFactor ts n
+    minus_sign : (ts : List TokenKind) (n : Number) → SpellsFactor ts n → SpellsFactor (token.Sign sign.Minus ∷ ts) (negative n)
+
+  -- a number token that spells a raw, a name, a number in brackets, or one of the words with brackets
+  pub data SpellsAtom : List TokenKind → Number → Type 0 where
+    of_literal : (digits : List ℕ) (raw : ℤ) → SpellsRaw digits raw → SpellsAtom (token.Number digits ∷ []) (literal raw)
+    of_variable : (name : List ℕ) → IsName name → SpellsAtom (token.Word name ∷ []) (variable name)
+    in_brackets : (ts : List TokenKind) (n : Number) → SpellsNumber ts n → SpellsAtom (bracketed ts) n
+    of_least : (ts : List TokenKind) (n : Number) → SpellsArguments least ts n → SpellsAtom (token.Key key.Min ∷ bracketed ts) n
+    of_greatest : (ts : List TokenKind) (n : Number) → SpellsArguments greatest ts n → SpellsAtom (token.Key key.Max ∷ bracketed ts) n
+    of_absolute : (ts : List TokenKind) (n : Number) → SpellsNumber ts n → SpellsAtom (token.Key key.Abs ∷ bracketed ts) (absolute n)
+    of_spot : SpellsAtom (token.Key key.Spot ∷ bracketed []) spot
+    of_period : SpellsAtom (token.Key key.Period ∷ bracketed []) period
+    of_days : SpellsAtom (token.Key key.Days ∷ bracketed []) days
+
+  -- two numbers or more with a comma between each two, under an operator, grouped to the left
+  pub data SpellsArguments : Operator → List TokenKind → Number → Type 0 where
+    two : (op : Operator) (ts us : List TokenKind) (a b : Number) → SpellsNumber ts a → SpellsNumber us b
+        → SpellsArguments op (ts ++ token.Sign sign.Comma ∷ us) (binary op a b)
+    one_more_number : (op : Operator) (ts us : List TokenKind) (a b : Number) → SpellsArguments op ts a → SpellsNumber us b
+        → SpellsArguments op (ts ++ token.Sign sign.Comma ∷ us) (binary op a b)
+
+-- `name = number`, or `leg pays number`
+pub data SpellsSimple : List TokenKind → Statement → Type 0 where
+  assignment : (name : List ℕ) (ts : List TokenKind) (n : Number) → IsName name → SpellsNumber ts n
+      → SpellsSimple (token.Word name ∷ token.Sign sign.Equals ∷ ts) (assign name n)
+  payment : (leg : List ℕ) (ts : List TokenKind) (n : Number) → IsName leg → SpellsNumber ts n
+      → SpellsSimple (token.Word leg ∷ token.Key key.Pays ∷ ts) (pay leg n)
+
+-- the same, with a `;` after it or none
+pub data SpellsStatement : List TokenKind → Statement → Type 0 where
+  bare : (ts : List TokenKind) (s : Statement) → SpellsSimple ts s → SpellsStatement ts s
+  ended : (ts : List TokenKind) (s : Statement) → SpellsSimple ts s → SpellsStatement (ts ++ token.Sign sign.Semicolon ∷ []) s
+
+-- any number of statements
+pub data SpellsBody : List TokenKind → Body → Type 0 where
+  no_statement : SpellsBody [] done
+  one_more : (ts us : List TokenKind) (b : Body) (s : Statement) → SpellsBody ts b → SpellsStatement us s → SpellsBody (ts ++ us) (and_then b s)
+
+-- a date, and the statements on it
+pub data SpellsItem : List TokenKind → Item → Type 0 where
+  dated : (date : Day) (ts : List TokenKind) (b : Body) → SpellsBody ts b → SpellsItem (token.Date date ∷ ts) (plain date b)
+
+-- any number of items
+pub data SpellsScript : List TokenKind → Script → Type 0 where
+  no_item : SpellsScript [] []
+  one_more_item : (ts us : List TokenKind) (items : Script) (i : Item) → SpellsScript ts items → SpellsItem us i → SpellsScript (ts ++ us) (items ++ i ∷ [])
+
+-- the tokens spell no script
+abbrev pub SpellsNoScript : List TokenKind → Type 0
+SpellsNoScript ts = (s : Script) → ¬ SpellsScript ts s

@@ -1,0 +1,10 @@
+pub mod Grammar
+pub mod Reading
+pub mod ReadingViews
+pub mod GrammarLaws
+pub mod TokenLimits
+pub mod TokenDepths
+pub mod CanonicalLaw
+pub mod LimitLaws
+pub mod DepthViews
+pub mod Parsing

@@ -1,0 +1,110 @@
+-- The parser's own state as the plain data of the reading.
+use Rattle.std.specs.Prelude.{◌≡◌, ◌∷◌, [], List, length, map, reverse, Option, Some, None, IsSome, Result, Ok, Err, Vec}
+use Rattle.std.specs.Option.{option_map}
+use Rattle.std.specs.Global.{Global}
+use Rattle.pay_meaning.specs.Language.{Body, Script}
+use Rattle.pay_tree.specs.declared.tree.Item.{Item as ItemTree}
+use Rattle.pay_tree.specs.declared.tree.Stmt.{Stmt}
+use Rattle.pay_tree.specs.declared.name.NameFault.{NameFault}
+use Rattle.pay_tree.specs.declared.name.NameFault.TheVariants as name_fault
+use Rattle.pay_tree.specs.Views.{operator, number, body, item}
+use Rattle.pay_parser.specs.declared.parse_fault.ParseFault.{ParseFault}
+use Rattle.pay_parser.specs.declared.parse_fault.ParseFault.TheVariants as fault
+use Rattle.pay_parser.specs.declared.parse_fault.StepFault.{StepFault}
+use Rattle.pay_parser.specs.declared.parse_fault.StepFault.TheVariants.{NotScript, NoMemory}
+use Rattle.pay_parser.specs.declared.place.Head.{Head as HeadTree}
+use Rattle.pay_parser.specs.declared.place.Head.TheVariants as head_tree
+use Rattle.pay_parser.specs.declared.place.Sum.{Sum as SumTree}
+use Rattle.pay_parser.specs.declared.place.Sum.TheVariants as sum_tree
+use Rattle.pay_parser.specs.declared.place.Product.{Product as ProductTree}
+use Rattle.pay_parser.specs.declared.place.Product.TheVariants as product_tree
+use Rattle.pay_parser.specs.declared.place.Before.{Before as BeforeTree}
+use Rattle.pay_parser.specs.declared.place.Frame.{Frame as FrameTree}
+use Rattle.pay_parser.specs.declared.place.Frame.TheVariants as frame_tree
+use Rattle.pay_parser.specs.declared.place.Stack.{Stack as StackTree}
+use Rattle.pay_parser.specs.declared.place.Innermost.{Innermost as InnermostTree}
+use Rattle.pay_parser.specs.declared.place.Innermost.TheVariants as innermost_tree
+use Rattle.pay_parser.specs.declared.place.Unfinished.{Unfinished as UnfinishedTree}
+use Rattle.pay_parser.specs.declared.place.Mode.{Mode as ModeTree}
+use Rattle.pay_parser.specs.declared.place.Mode.TheVariants as mode_tree
+use Rattle.pay_parser.specs.declared.place.State.{State as StateTree}
+use Rattle.pay_parser.specs.Reading as reading
+use Rattle.pay_parser.specs.Reading.{Head, assigns, pays, Sum, no_sum, sum_plus, sum_minus, Product, no_product, product_times, product_over}
+use Rattle.pay_parser.specs.Reading.{Before, Frame, a_script, an_item, a_statement, a_bracket, an_absolute, a_choice}
+use Rattle.pay_parser.specs.Reading.{Mode, free, named, factor_next, after, bracket_next, call_named, call_opened, State}
+
+abbrev pub head : HeadTree → Head
+head (head_tree.Assigns name) = assigns name
+head (head_tree.Pays leg) = pays leg
+
+abbrev pub sum : SumTree → Sum
+sum sum_tree.Nothing = no_sum
+sum (sum_tree.Plus left) = sum_plus (number left)
+sum (sum_tree.Minus left) = sum_minus (number left)
+
+abbrev pub product : ProductTree → Product
+product product_tree.Nothing = no_product
+product (product_tree.Times left) = product_times (number left)
+product (product_tree.Over left) = product_over (number left)
+
+abbrev pub before : BeforeTree → Before
+before left = reading.before (sum left.sum) (product left.product) (length left.signs.items)
+
+-- the statements of an item so far
+abbrev pub statements : Vec Stmt Global → Body
+statements so_far = body so_far.items
+
+abbrev pub frame : FrameTree → Frame
+frame (frame_tree.Item date so_far) = an_item date (statements so_far)
+frame (frame_tree.Statement h) = a_statement (head h)
+frame (frame_tree.Bracket left) = a_bracket (before left)
+frame (frame_tree.Absolute left) = an_absolute (before left)
+frame (frame_tree.Choice op left first) = a_choice (operator op) (before left) (option_map number first)
+
+-- the items of a script so far
+abbrev pub items : Vec ItemTree Global → Script
+items so_far = map item so_far.items
+
+-- frames with the innermost last, over a script: the innermost first
+unfoldable pub frames_over : Script → List FrameTree → List Frame
+frames_over script inner = reverse (a_script script ∷ map frame inner)
+
+abbrev pub frames : StackTree → List Frame
+frames stack = frames_over (items stack.items) stack.frames.items
+
+abbrev pub innermost : InnermostTree → List Frame
+innermost (innermost_tree.Script so_far) = a_script (items so_far) ∷ []
+innermost (innermost_tree.Frame inner stack) = frame inner ∷ frames stack
+
+-- a statement that awaits its number, in its item
+abbrev pub unfinished : UnfinishedTree → List Frame
+unfinished open_one = a_statement (head open_one.head) ∷ an_item open_one.date (statements open_one.body) ∷ frames open_one.outer
+
+abbrev pub mode : ModeTree → Mode
+mode mode_tree.Free = free
+mode (mode_tree.Named name) = named name
+mode (mode_tree.FactorNext left) = factor_next (before left)
+mode (mode_tree.After s term) = after (sum s) (number term)
+mode (mode_tree.BracketNext inner) = bracket_next (frame inner)
+mode (mode_tree.CallNamed called left) = call_named (number called) (before left)
+mode (mode_tree.CallOpened called left) = call_opened (number called) (before left)
+
+abbrev pub state : StateTree → State
+state place = reading.state (frames place.stack) (mode place.mode)
+
+-- What a function of the parser gives: what the definition gives, as a tree, and a refusal exactly where it gives nothing. Memory is wanted only
+-- where it gives something.
+abbrev pub Gives : {A B : Type 0} → (A → B) → Result A StepFault → Option B → Type 0
+Gives view (Ok tree) given = given ≡ Some (view tree)
+Gives view (Err NotScript) given = given ≡ None
+Gives view (Err NoMemory) given = IsSome given
+
+-- letters that are no name make the tokens no script
+abbrev pub fault_of_name : NameFault → StepFault
+fault_of_name name_fault.NotName = NotScript
+fault_of_name name_fault.NoMemory = NoMemory
+
+-- the machine's refusals are the parser's
+abbrev pub fault_of_step : StepFault → ParseFault
+fault_of_step NotScript = fault.NotScript
+fault_of_step NoMemory = fault.NoMemory

@@ -1,0 +1,32 @@
+//! The parser: the script that tokens spell.
+//!
+//! [`parse`] takes the tokens of a text and gives the tree of the script that they spell, or says why there is none: a token is too large, too
+//! many brackets, ifs or operators are open, or the tokens are no script.
+//!
+//! ```
+//! let tokens = lex(alloc, b"@2024-06-28 a pays -(1 + 2) * x - 3")?;
+//! let script = parse(alloc, &tokens)?;
+//! ```
+//!
+//! Here the script has one item, on 2024-06-28, with one statement: the leg `a` is paid `((-(1 + 2) * x) - 3)`. Factors are grouped before terms,
+//! a minus sign before both, and each of them to the left, so `a - b - c` is `(a - b) - c` and `min(a, b, c)` is `min(min(a, b), c)`.
+//!
+//! What tokens spell is said by the relation of `specs/Grammar.antt`, over all ways to cut them. The code takes one token at a time and each
+//! token once, as the reading of `specs/Reading.antt` does: what is open stands on a stack of frames, and a mode says what is awaited. That the
+//! reading finds what the relation says is the law of [`grammar_laws`]. No function is a recursion over the grammar, and the limits of
+//! `specs/TokenLimits.antt`, which bound how deep a tree can be, are asked before any part of a tree is made.
+#![tactic(auto)]
+
+pub mod canonical_law;
+pub mod grammar_laws;
+pub mod limit_laws;
+mod number;
+mod parse_fault;
+mod parser;
+mod place;
+#[cfg(test)]
+mod tests;
+mod token_limits;
+
+pub use parse_fault::ParseFault;
+pub use parser::parse;
