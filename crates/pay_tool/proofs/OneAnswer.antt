@@ -1,35 +1,90 @@
 -- Words and files have one answer.
-use Rattle.std.proofs.Common.{◌≡◌, ℕ, List, Option, Some, None, refl}
-use Rattle.pay_edge.specs.Edge.{Files}
+use Rattle.std.proofs.Common.{◌≡◌, ℕ, ◌≤◌, nat_le, Bool, true, false, inl, inr, List, length, Option, Some, None, if◌then◌else◌, refl, arith, ◌∙◌}
+use Rattle.std.proofs.lemmas.Bool.{leb-true, leb-false, le-leb}
+use Rattle.std.specs.Prelude.{◌↔◌}
+use Rattle.std.specs.FinMap.{get}
+use Rattle.pay_edge.specs.Edge.{Files, Long, Bytes, whole_from}
 use Rattle.pay_meaning.specs.Language.{Event}
-use Rattle.pay_tool.specs.Tables.{Table}
+use Rattle.pay_tool.specs.declared.refusal.Refusal.{Refusal}
+use Rattle.pay_tool.specs.Tables.{Table, SpellsTable}
 use Rattle.pay_tool.specs.Requests.{Asked, run, request_of}
-use Rattle.pay_tool.specs.Answers.{Input, not_there, bad, good, script_of, table_of, Answer, run_script, run_table, answer_of}
-use Rattle.pay_tool.specs.ToolLaws.{IsAnswer, without_request, script_absent, script_refused, scenarios_absent, scenarios_refused, accepted, OneAnswer}
+use Rattle.pay_tool.specs.Answers.{Input, not_there, bad, good, input_of, checked_script, checked_table, script_limit, table_limit, script_of}
+use Rattle.pay_tool.specs.Answers.{table_of, Answer, run_script, run_table, answer_of}
+use Rattle.pay_tool.specs.CheckLaws.{IsScriptText, IsScriptFault, IsTableFault}
+use Rattle.pay_tool.specs.ToolLaws.{IsInput, no_file, too_long, with_fault, with_value, IsScriptInput, IsTableInput, IsAnswer, without_request}
+use Rattle.pay_tool.specs.ToolLaws.{script_absent, script_refused, scenarios_absent, scenarios_refused, accepted, OneAnswer}
+use Rattle.pay_tool.proofs.Checks.{beyond-leb, script_acceptance, script_refusal, script_there, table_acceptance, table_refusal, table_there}
 
-with_table : (words : List (List ℕ)) (files : Files) (s t : List ℕ) (events : List Event) (scenarios : Input Table) → request_of words ≡ Some (run s t) → script_of files s ≡ good events
-    → table_of files t ≡ scenarios → IsAnswer words files (run_table events t scenarios)
+-- a check that gives a value exactly where bytes have it, and a refusal exactly where they have its fault
+record IsCheck {A : Type 0} (Gives : List ℕ → A → Type 0) (HasFault : List ℕ → Refusal → Type 0) (check : List ℕ → Input A) : Type 0 where
+  gives : (bytes : List ℕ) (value : A) → (check bytes ≡ good value) ↔ Gives bytes value
+  refuses : (bytes : List ℕ) (refusal : Refusal) → (check bytes ≡ bad refusal) ↔ HasFault bytes refusal
+  there : (bytes : List ℕ) → check bytes ≡ not_there → ⊥
+
+module _ {A : Type 0} (Gives : List ℕ → A → Type 0) (HasFault : List ℕ → Refusal → Type 0) (check : List ℕ → Input A) (is : IsCheck Gives HasFault check) (limit : ℕ) where
+  from_check : (bytes : List ℕ) (input : Input A) → length bytes ≤ limit → check bytes ≡ input → IsInput Gives HasFault limit (Some bytes) input
+  from_check bytes not_there small e = absurd (is.there bytes e)
+  from_check bytes (bad refusal) small e = with_fault bytes refusal refl small ((is.refuses bytes refusal).0 e)
+  from_check bytes (good value) small e = with_value bytes value refl small ((is.gives bytes value).0 e)
+
+  from_length : (bytes : List ℕ) (small : Bool) → nat_le (length bytes) limit ≡ small → IsInput Gives HasFault limit (Some bytes) (input_of check (if small then Bytes bytes else Long))
+  from_length bytes true e = from_check bytes (check bytes) (leb-true _ _ e) refl
+  from_length bytes false e = too_long bytes refl (leb-false _ _ e)
+
+  -- a file is the input that its check gives
+  from_file : (file : Option (List ℕ)) → IsInput Gives HasFault limit file (input_of check (whole_from file limit))
+  from_file None = no_file refl
+  from_file (Some bytes) = from_length bytes (nat_le (length bytes) limit) refl
+
+  -- and no other
+  only_input : (file : Option (List ℕ)) (input : Input A) → IsInput Gives HasFault limit file input → input_of check (whole_from file limit) ≡ input
+  only_input file _ (no_file e) = rw e refl
+  only_input file _ (too_long bytes e long) = rw (e, beyond-leb _ _ long) refl
+  only_input file _ (with_fault bytes refusal e small fault) = rw (e, le-leb _ _ small) ((is.refuses bytes refusal).1 fault)
+  only_input file _ (with_value bytes value e small gives) = rw (e, le-leb _ _ small) ((is.gives bytes value).1 gives)
+
+script_check : IsCheck IsScriptText IsScriptFault checked_script
+script_check = record { gives = script_acceptance; refuses = script_refusal; there = script_there }
+
+table_check : IsCheck SpellsTable IsTableFault checked_table
+table_check = record { gives = table_acceptance; refuses = table_refusal; there = table_there }
+
+-- the inputs of names
+pub script_input : (files : Files) (name : List ℕ) → IsScriptInput files name (script_of files name)
+script_input files name = from_file IsScriptText IsScriptFault checked_script script_check script_limit (get files name)
+
+pub table_input : (files : Files) (name : List ℕ) → IsTableInput files name (table_of files name)
+table_input files name = from_file SpellsTable IsTableFault checked_table table_check table_limit (get files name)
+
+pub only_script : (files : Files) (name : List ℕ) (input : Input (List Event)) → IsScriptInput files name input → script_of files name ≡ input
+only_script files name input h = only_input IsScriptText IsScriptFault checked_script script_check script_limit (get files name) input h
+
+pub only_table : (files : Files) (name : List ℕ) (input : Input Table) → IsTableInput files name input → table_of files name ≡ input
+only_table files name input h = only_input SpellsTable IsTableFault checked_table table_check table_limit (get files name) input h
+
+with_table : (words : List (List ℕ)) (files : Files) (s t : List ℕ) (events : List Event) (table : Input Table) → request_of words ≡ Some (run s t)
+    → IsScriptInput files s (good events) → IsTableInput files t table → IsAnswer words files (run_table events t table)
 with_table words files s t events not_there asks e f = scenarios_absent s t events asks e f
 with_table words files s t events (bad refusal) asks e f = scenarios_refused s t events refusal asks e f
 with_table words files s t events (good table) asks e f = accepted s t events table asks e f
 
-with_script : (words : List (List ℕ)) (files : Files) (s t : List ℕ) (script : Input (List Event)) → request_of words ≡ Some (run s t) → script_of files s ≡ script
-    → IsAnswer words files (run_script s script t (table_of files t))
+with_script : (words : List (List ℕ)) (files : Files) (s t : List ℕ) (script : Input (List Event)) → request_of words ≡ Some (run s t)
+    → IsScriptInput files s script → IsAnswer words files (run_script s script t (table_of files t))
 with_script words files s t not_there asks e = script_absent s t asks e
 with_script words files s t (bad refusal) asks e = script_refused s t refusal asks e
-with_script words files s t (good events) asks e = with_table words files s t events (table_of files t) asks e refl
+with_script words files s t (good events) asks e = with_table words files s t events (table_of files t) asks e (table_input files t)
 
 with_request : (words : List (List ℕ)) (files : Files) (asked : Option Asked) → request_of words ≡ asked → IsAnswer words files (answer_of asked files)
 with_request words files None asks = without_request asks
-with_request words files (Some (run s t)) asks = with_script words files s t (script_of files s) asks refl
+with_request words files (Some (run s t)) asks = with_script words files s t (script_of files s) asks (script_input files s)
 
 only : (words : List (List ℕ)) (files : Files) (other : Answer) → IsAnswer words files other → other ≡ answer_of (request_of words) files
 only words files _ (without_request asks) = rw asks refl
-only words files _ (script_absent s t asks e) = rw (asks, e) refl
-only words files _ (script_refused s t refusal asks e) = rw (asks, e) refl
-only words files _ (scenarios_absent s t events asks e f) = rw (asks, e, f) refl
-only words files _ (scenarios_refused s t events refusal asks e f) = rw (asks, e, f) refl
-only words files _ (accepted s t events table asks e f) = rw (asks, e, f) refl
+only words files _ (script_absent s t asks e) = rw (asks, only_script files s _ e) refl
+only words files _ (script_refused s t refusal asks e) = rw (asks, only_script files s _ e) refl
+only words files _ (scenarios_absent s t events asks e f) = rw (asks, only_script files s _ e, only_table files t _ f) refl
+only words files _ (scenarios_refused s t events refusal asks e f) = rw (asks, only_script files s _ e, only_table files t _ f) refl
+only words files _ (accepted s t events table asks e f) = rw (asks, only_script files s _ e, only_table files t _ f) refl
 
 pub one_answer : OneAnswer
 one_answer words files = record { given = with_request words files (request_of words) refl; only = only words files }

@@ -1,12 +1,14 @@
 -- What a reader has read so far, and what is left.
-use Rattle.std.proofs.Common.{◌≡◌, ◌≢◌, ℕ, ◌<◌, List, [], ◌∷◌, ◌++◌, length, Option, Some, None, true, refl, sym, ap, ◌∙◌, append_assoc, arith, length-append, ℤ}
+use Rattle.std.proofs.Common.{◌≡◌, ◌≢◌, ℕ, ◌<◌, List, [], ◌∷◌, ◌++◌, length, Option, Some, None, true, refl, sym, ap, ◌∙◌, append_assoc, arith}
+use Rattle.std.proofs.Common.{length-append, ℤ}
 use Rattle.std.proofs.lemmas.Bool.{ne_eqb, lt-leb, and_right, false≢true}
 use Rattle.pay_dates.specs.Days.{day_in}
 use denote.Ref.{Bor}
 use Rattle.std.specs.Option.{option_copied, is_some}
 use Rattle.pay_dates.specs.declared.day.Day.{Day}
 use Rattle.pay_tool.specs.Tables.{Row, are_distinct}
-use Rattle.pay_tool.specs.TableReading.{pieces, pieces_if, with_first, each_in, cell_in, full_if, columns_if, row_in, rows_in, rows_if, columns_in, table_of_rows, scenarios_in}
+use Rattle.pay_tool.specs.TableReading.{pieces, pieces_if, with_first, each_in, cell_in, full_if, columns_if, row_in, rows_in, rows_if, columns_in}
+use Rattle.pay_tool.specs.TableReading.{table_of_rows, scenarios_in}
 use Rattle.pay_tool.proofs.PieceLemmas.{pieces-first, pieces-some}
 use Rattle.pay_tool.proofs.TableComplete.{rows_in-more}
 use Rattle.pay_dates.proofs.DayLemmas.{day_text-day_in, day_text-length}
@@ -67,35 +69,35 @@ rows-none rows (Some x) (Some others) size =
     rw (lt-leb (length (rows ++ x ∷ others)) 100_000 many) refl
 
 -- the rows of a line and of what is left below it
-pub rows-line : (columns : ℕ) (line left behind : List ℕ) → pieces 10 left ≡ line ∷ pieces 10 behind → rows_in columns (pieces 10 left) ≡ with_first (row_in columns line) (rows_in columns (pieces 10 behind))
-rows-line columns line left behind is = rw is (rows_in-more columns line (pieces 10 behind) (pieces-some 10 behind))
+pub rows-line : (columns : ℕ) (line left later : List ℕ) → pieces 10 left ≡ line ∷ pieces 10 later → rows_in columns (pieces 10 left) ≡ with_first (row_in columns line) (rows_in columns (pieces 10 later))
+rows-line columns line left later is = rw is (rows_in-more columns line (pieces 10 later) (pieces-some 10 later))
 
 -- ---- rows of what is left
 
 -- a line that is not the last
-pub rows-left : (columns : ℕ) (line left : List ℕ) (behind : Option (Bor (List ℕ))) → pieces 10 left ≡ line ∷ pieces_if 10 (option_copied behind) → is_some behind ≡ true
-    → rows_in columns (pieces 10 left) ≡ with_first (row_in columns line) (rows_in columns (pieces_if 10 (option_copied behind)))
+pub rows-left : (columns : ℕ) (line left : List ℕ) (later : Option (Bor (List ℕ))) → pieces 10 left ≡ line ∷ pieces_if 10 (option_copied later) → is_some later ≡ true
+    → rows_in columns (pieces 10 left) ≡ with_first (row_in columns line) (rows_in columns (pieces_if 10 (option_copied later)))
 rows-left columns line left None cut is = absurd (false≢true is)
-rows-left columns line left (Some behind) cut is = rows-line columns line left behind.now cut
+rows-left columns line left (Some later) cut is = rows-line columns line left later.now cut
 
 -- 100,000 rows, and one more line
-pub rows-past : (columns : ℕ) (rows : List Row) (line left : List ℕ) (behind : Option (Bor (List ℕ))) (whole : Option (List Row)) → pieces 10 left ≡ line ∷ pieces_if 10 (option_copied behind) → is_some behind ≡ true
+pub rows-past : (columns : ℕ) (rows : List Row) (line left : List ℕ) (later : Option (Bor (List ℕ))) (whole : Option (List Row)) → pieces 10 left ≡ line ∷ pieces_if 10 (option_copied later) → is_some later ≡ true
     → whole ≡ after rows (rows_in columns (pieces 10 left)) → length rows ≡ 100_000 → rows_if whole ≡ None
-rows-past columns rows line left behind whole cut is read size =
-    rw (read, rows-left columns line left behind cut is) (rows-none rows (row_in columns line) (rows_in columns (pieces_if 10 (option_copied behind))) size)
+rows-past columns rows line left later whole cut is read size =
+    rw (read, rows-left columns line left later cut is) (rows-none rows (row_in columns line) (rows_in columns (pieces_if 10 (option_copied later))) size)
 
 -- a line that is no row
-pub rows-bad : (columns : ℕ) (rows : List Row) (line left : List ℕ) (behind : Option (Bor (List ℕ))) (whole : Option (List Row)) → pieces 10 left ≡ line ∷ pieces_if 10 (option_copied behind) → is_some behind ≡ true
+pub rows-bad : (columns : ℕ) (rows : List Row) (line left : List ℕ) (later : Option (Bor (List ℕ))) (whole : Option (List Row)) → pieces 10 left ≡ line ∷ pieces_if 10 (option_copied later) → is_some later ≡ true
     → whole ≡ after rows (rows_in columns (pieces 10 left)) → row_in columns line ≡ None → rows_if whole ≡ None
-rows-bad columns rows line left behind whole cut is read bad =
-    rw (read, rows-left columns line left behind cut is, bad) refl
+rows-bad columns rows line left later whole cut is read bad =
+    rw (read, rows-left columns line left later cut is, bad) refl
 
 -- a line that is a row
-pub rows-more : (columns : ℕ) (rows : List Row) (r : Row) (line left : List ℕ) (behind : Option (Bor (List ℕ))) (whole : Option (List Row)) → pieces 10 left ≡ line ∷ pieces_if 10 (option_copied behind) → is_some behind ≡ true
-    → whole ≡ after rows (rows_in columns (pieces 10 left)) → row_in columns line ≡ Some r → whole ≡ after (rows ++ r ∷ []) (rows_in columns (pieces_if 10 (option_copied behind)))
-rows-more columns rows r line left behind whole cut is read good =
-    read ∙ (ap (after rows) (rows-left columns line left behind cut is ∙ ap (λ x. with_first x (rows_in columns (pieces_if 10 (option_copied behind)))) good)
-    ∙ after-more rows r (rows_in columns (pieces_if 10 (option_copied behind))))
+pub rows-more : (columns : ℕ) (rows : List Row) (r : Row) (line left : List ℕ) (later : Option (Bor (List ℕ))) (whole : Option (List Row)) → pieces 10 left ≡ line ∷ pieces_if 10 (option_copied later) → is_some later ≡ true
+    → whole ≡ after rows (rows_in columns (pieces 10 left)) → row_in columns line ≡ Some r → whole ≡ after (rows ++ r ∷ []) (rows_in columns (pieces_if 10 (option_copied later)))
+rows-more columns rows r line left later whole cut is read good =
+    read ∙ (ap (after rows) (rows-left columns line left later cut is ∙ ap (λ x. with_first x (rows_in columns (pieces_if 10 (option_copied later)))) good)
+    ∙ after-more rows r (rows_in columns (pieces_if 10 (option_copied later))))
 
 -- ---- the whole text
 

@@ -1,5 +1,6 @@
 -- A text that spells a table reads as that table.
-use Rattle.std.proofs.Common.{◌≡◌, ℕ, ◌≤◌, ℤ, List, [], ◌∷◌, ◌++◌, length, Option, Some, true, false, nat_eq, refl, sym, ap, ◌∙◌, append_assoc, eqb-true, eq-eqb}
+use Rattle.std.proofs.Common.{◌≡◌, ℕ, ◌≤◌, ℤ, List, [], ◌∷◌, ◌++◌, length, Option, Some, true, false, nat_eq, refl, sym, ap, ◌∙◌, append_assoc}
+use Rattle.std.proofs.Common.{eqb-true, eq-eqb}
 use Rattle.std.specs.Bool.{IsTrue}
 use Rattle.std.specs.List.{list_all}
 use Rattle.std.proofs.lemmas.Bool.{false≢true, and_parts, le-leb, false_from_ne_true}
@@ -8,7 +9,8 @@ use Rattle.std.proofs.lemmas.List.{append-nil}
 use Rattle.pay_dates.specs.Days.{day_in, day_text}
 use Rattle.pay_dates.specs.declared.day.Day.{Day}
 use Rattle.pay_tool.specs.Tables.{Row, is_label, is_label_byte, are_distinct, table_word, SpellsCell, SpellsCells, SpellsDates, SpellsRows}
-use Rattle.pay_tool.specs.TableReading.{pieces, with_first, each_in, cell_in, row_in, rows_in, columns_if, columns_of_pieces, columns_in, rows_if, table_of_rows, table_below, table_in, scenarios_in}
+use Rattle.pay_tool.specs.TableReading.{pieces, with_first, each_in, cell_in, row_in, rows_in, columns_if, columns_of_pieces, columns_in, rows_if}
+use Rattle.pay_tool.specs.TableReading.{table_of_rows, table_below, table_in, scenarios_in}
 use Rattle.pay_tool.specs.TableLaws.{SpelledTableIsRead, OneTable}
 use Rattle.pay_dates.proofs.DayLemmas.{day_in-day_text}
 use Rattle.pay_fixed.proofs.AsSpelled.{spelled-raw}
@@ -53,7 +55,7 @@ cell-read bytes cell SpellsCell.empty_cell = refl
 cell-read bytes cell (SpellsCell.given_cell [] raw is fits) = absurd (number-of_nothing raw (spelled-raw [] raw is))
 cell-read bytes cell (SpellsCell.given_cell (byte ∷ rest) raw is fits) = rw (spelled-raw (byte ∷ rest) raw is, fits) refl
 
--- behind a label, the pieces are the cells' pieces
+-- after a label, the pieces are the cells' pieces
 cells-read : (bytes : List ℕ) (cells : List (Option ℤ)) → SpellsCells bytes cells → (front : List ℕ) → Lacks 44 front
     → (ps : List (List ℕ)) × ((pieces 44 (front ++ bytes) ≡ front ∷ ps) × (each_in cell_in ps ≡ Some cells))
 cells-read bytes cells SpellsCells.no_cell front h = ([], (ap (pieces 44) (append-nil front) ∙ pieces-lacks 44 front h, refl))

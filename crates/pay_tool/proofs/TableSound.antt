@@ -1,5 +1,6 @@
 -- A text that reads as a table spells that table.
-use Rattle.std.proofs.Common.{◌≡◌, ◌&&◌, ℕ, ◌≤◌, ℤ, List, [], ◌∷◌, ◌++◌, length, Option, Some, None, Result, Ok, Err, Bool, true, false, cond, nat_le, ◌==◌, refl, sym, ap, ◌∙◌, subst, append_assoc, eqb-true, leb-true}
+use Rattle.std.proofs.Common.{◌≡◌, ◌&&◌, ℕ, ◌≤◌, ℤ, List, [], ◌∷◌, ◌++◌, length, Option, Some, None, Result, Ok, Err, Bool, true, false, cond}
+use Rattle.std.proofs.Common.{nat_le, ◌==◌, refl, sym, ap, ◌∙◌, subst, append_assoc, eqb-true, leb-true}
 use Rattle.std.specs.Bool.{IsTrue}
 use Rattle.std.specs.List.{AllByRecursion as ByRecursion}
 use Rattle.std.specs.Str.{bytes_eq}
@@ -11,12 +12,14 @@ use Rattle.pay_dates.specs.Days.{day_in}
 use Rattle.pay_dates.specs.declared.day.Day.{Day}
 use Rattle.pay_fixed.specs.Decimal.{decimal_in}
 use Rattle.pay_fixed.specs.declared.NumberFault.{NumberFault}
-use Rattle.pay_tool.specs.Tables.{Row, Table, is_label, is_fixing, are_distinct, table_word, SpellsCell, SpellsCells, SpellsDates, SpellsRows, IsAligned}
-use Rattle.pay_tool.specs.TableReading.{pieces, with_first, each_in, fixing_if, cell_in, full_if, row_if, row_of, row_in, rows_in, columns_if, columns_of_pieces, columns_in, rows_if, table_of_rows, table_below, scenarios_in}
+use Rattle.pay_tool.specs.Tables.{Row, Table, is_label, is_fixing, are_distinct, table_word, SpellsCell, SpellsCells, SpellsDates, SpellsRows}
+use Rattle.pay_tool.specs.Tables.{IsAligned}
+use Rattle.pay_tool.specs.TableReading.{pieces, with_first, each_in, fixing_if, cell_in, full_if, row_if, row_of, row_in, rows_in, columns_if}
+use Rattle.pay_tool.specs.TableReading.{columns_of_pieces, columns_in, rows_if, table_of_rows, table_below, scenarios_in}
 use Rattle.pay_tool.specs.TableLaws.{TableIsSpelled}
 use Rattle.pay_dates.proofs.DayLemmas.{day_text-day_in}
 use Rattle.pay_fixed.proofs.AsSpelled.{raw-spelled}
-use Rattle.pay_tool.proofs.PieceLemmas.{pieces-first, behind, joined, joined-pieces, behind-joined}
+use Rattle.pay_tool.proofs.PieceLemmas.{pieces-first, each_after, joined, joined-pieces, after-joined}
 
 with_first-some : {A : Type 0} (x : Option A) (xs : Option (List A)) (all : List A) → with_first x xs ≡ Some all
     → (first : A) × ((others : List A) × ((x ≡ Some first) × (xs ≡ Some others) × (first ∷ others ≡ all)))
@@ -36,20 +39,20 @@ cell-spelled (byte ∷ rest) cell e =
     let p = fixing_if-some (decimal_in (byte ∷ rest)) cell e in
     subst (SpellsCell (byte ∷ rest)) p.1.2 (SpellsCell.given_cell (byte ∷ rest) p.0 (raw-spelled (byte ∷ rest) p.0 p.1.0) p.1.1)
 
-cells-spelled : (ps : List (List ℕ)) (cells : List (Option ℤ)) → each_in cell_in ps ≡ Some cells → SpellsCells (behind 44 ps) cells
+cells-spelled : (ps : List (List ℕ)) (cells : List (Option ℤ)) → each_in cell_in ps ≡ Some cells → SpellsCells (each_after 44 ps) cells
 cells-spelled [] cells e = subst (SpellsCells []) (same_Some _ _ e) SpellsCells.no_cell
 cells-spelled (piece ∷ rest) cells e =
     let p = with_first-some (cell_in piece) (each_in cell_in rest) cells e in
-    subst (SpellsCells (behind 44 (piece ∷ rest))) p.1.1.2 (SpellsCells.next_cell piece (behind 44 rest) p.0 p.1.0 (cell-spelled piece p.0 p.1.1.0) (cells-spelled rest p.1.0 p.1.1.1))
+    subst (SpellsCells (each_after 44 (piece ∷ rest))) p.1.1.2 (SpellsCells.next_cell piece (each_after 44 rest) p.0 p.1.0 (cell-spelled piece p.0 p.1.1.0) (cells-spelled rest p.1.0 p.1.1.1))
 
-dates-spelled : (ps : List (List ℕ)) (dates : List Day) → each_in day_in ps ≡ Some dates → SpellsDates (behind 44 ps) dates
+dates-spelled : (ps : List (List ℕ)) (dates : List Day) → each_in day_in ps ≡ Some dates → SpellsDates (each_after 44 ps) dates
 dates-spelled [] dates e = subst (SpellsDates []) (same_Some _ _ e) SpellsDates.no_date
 dates-spelled (piece ∷ rest) dates e =
     let p = with_first-some (day_in piece) (each_in day_in rest) dates e in
     let day = day_text-day_in piece p.0 p.1.1.0 in
-    subst (SpellsDates (behind 44 (piece ∷ rest))) p.1.1.2
-    (subst (λ (text : List ℕ). SpellsDates (44 ∷ (text ++ behind 44 rest)) (p.0 ∷ p.1.0)) day.1
-    (SpellsDates.next_date (behind 44 rest) p.0 p.1.0 day.0 (dates-spelled rest p.1.0 p.1.1.1)))
+    subst (SpellsDates (each_after 44 (piece ∷ rest))) p.1.1.2
+    (subst (λ (text : List ℕ). SpellsDates (44 ∷ (text ++ each_after 44 rest)) (p.0 ∷ p.1.0)) day.1
+    (SpellsDates.next_date (each_after 44 rest) p.0 p.1.0 day.0 (dates-spelled rest p.1.0 p.1.1.1)))
 
 row_if-some : (columns : ℕ) (label : List ℕ) (cells : Option (List (Option ℤ))) (r : Row) → row_if label (full_if columns cells) ≡ Some r
     → (cells ≡ Some r.cells) × (label ≡ r.label) × (length r.cells ≡ columns)
@@ -83,11 +86,11 @@ rows-spelled columns ((byte ∷ more) ∷ []) rows e = cc
 rows-spelled columns (line ∷ next ∷ rest) rows e =
     let p = with_first-some (row_in columns line) (rows_in columns (next ∷ rest)) rows e in
     let r = row_of-some columns (pieces 44 line) p.0 p.1.1.0 in
-    let text : line ≡ p.0.label ++ behind 44 r.0 = sym (joined-pieces 44 line) ∙ ap (joined 44) r.1.0 in
+    let text : line ≡ p.0.label ++ each_after 44 r.0 = sym (joined-pieces 44 line) ∙ ap (joined 44) r.1.0 in
     let back = rows-spelled columns (next ∷ rest) p.1.0 p.1.1.1 in
-    let is = SpellsRows.next_row columns p.0.label (behind 44 r.0) (joined 10 (next ∷ rest)) p.0.cells p.1.0 r.1.1 (cells-spelled r.0 p.0.cells r.1.2) r.1.3 back in
-    let whole : p.0.label ++ (behind 44 r.0 ++ 10 ∷ joined 10 (next ∷ rest)) ≡ line ++ 10 ∷ joined 10 (next ∷ rest) =
-    sym (append_assoc p.0.label (behind 44 r.0) (10 ∷ joined 10 (next ∷ rest))) ∙ ap (λ (x : List ℕ). x ++ 10 ∷ joined 10 (next ∷ rest)) (sym text) in
+    let is = SpellsRows.next_row columns p.0.label (each_after 44 r.0) (joined 10 (next ∷ rest)) p.0.cells p.1.0 r.1.1 (cells-spelled r.0 p.0.cells r.1.2) r.1.3 back in
+    let whole : p.0.label ++ (each_after 44 r.0 ++ 10 ∷ joined 10 (next ∷ rest)) ≡ line ++ 10 ∷ joined 10 (next ∷ rest) =
+    sym (append_assoc p.0.label (each_after 44 r.0) (10 ∷ joined 10 (next ∷ rest))) ∙ ap (λ (x : List ℕ). x ++ 10 ∷ joined 10 (next ∷ rest)) (sym text) in
     subst (λ (x : List ℕ). SpellsRows columns x rows) whole (subst (SpellsRows columns _) p.1.1.2 is)
 
 -- dates that pass the tests of columns
@@ -149,13 +152,13 @@ table_is_spelled bytes t e =
     let ps = p.1.0 in
     let parts = p.1.1 in
     let head = columns_of_pieces-some (pieces 44 p.0) t.dates parts.1 in
-    let line : p.0 ≡ table_word ++ behind 44 head.0 = sym (joined-pieces 44 p.0) ∙ ap (joined 44) head.1.0 in
+    let line : p.0 ≡ table_word ++ each_after 44 head.0 = sym (joined-pieces 44 p.0) ∙ ap (joined 44) head.1.0 in
     let some_rows : ps ≡ [] → ⊥ = λ none. no_rows_in-nothing (length t.dates) t.rows (rw none at parts.2) in
-    let text : bytes ≡ p.0 ++ 10 ∷ joined 10 ps = sym (joined-pieces 10 bytes) ∙ (ap (joined 10) parts.0 ∙ ap (λ (x : List ℕ). p.0 ++ x) (behind-joined 10 ps some_rows)) in
+    let text : bytes ≡ p.0 ++ 10 ∷ joined 10 ps = sym (joined-pieces 10 bytes) ∙ (ap (joined 10) parts.0 ∙ ap (λ (x : List ℕ). p.0 ++ x) (after-joined 10 ps some_rows)) in
     record {
-      dates = behind 44 head.0;
+      dates = each_after 44 head.0;
       rows = joined 10 ps;
-      cut = text ∙ (ap (λ (x : List ℕ). x ++ 10 ∷ joined 10 ps) line ∙ append_assoc table_word (behind 44 head.0) (10 ∷ joined 10 ps));
+      cut = text ∙ (ap (λ (x : List ℕ). x ++ 10 ∷ joined 10 ps) line ∙ append_assoc table_word (each_after 44 head.0) (10 ∷ joined 10 ps));
       spells_dates = dates-spelled head.0 t.dates head.1.1;
       spells_rows = rows-spelled (length t.dates) ps t.rows parts.2;
       distinct = head.1.2;

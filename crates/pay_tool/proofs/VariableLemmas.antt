@@ -7,7 +7,7 @@ use Rattle.std.specs.Cmp.Lexicographic.{slice_cmp, nat_list_cmp_total}
 use Rattle.std.specs.FinMap.{get, insert, get-empty, get-insert, same_map, nat_cmp-IsAntisymmetric, slice_cmp-IsAntisymmetric}
 use Rattle.std.specs.Map.{lookup}
 use Rattle.std.specs.BTreeMap.{BTreeMap, Updates, is_at}
-use Rattle.pay_meaning.specs.Meaning.{value_of}
+use Rattle.pay_meaning.specs.Meaning.{lookup as variable_at}
 use Rattle.pay_tool.specs.Assigned.{variables_of}
 
 -- the order of names that are borrowed
@@ -24,10 +24,10 @@ get-variables name (entry ∷ rest) =
     get-insert nat_list_cmp_total (variables_of rest) entry.0.now entry.1 name
     ∙ ap (cond (eq_by_cmp (slice_cmp nat_cmp) name entry.0.now) (Some entry.1)) (get-variables name rest)
 
-pub value-some : (name : List ℕ) (entries : List (Bor (List ℕ) × ℤ)) (raw : ℤ) → Some raw ≡ entry_at name entries → raw ≡ value_of (variables_of entries) name
+pub value-some : (name : List ℕ) (entries : List (Bor (List ℕ) × ℤ)) (raw : ℤ) → Some raw ≡ entry_at name entries → raw ≡ variable_at (variables_of entries) name
 value-some name entries raw found = ap (λ (o : Option ℤ). unwrap_or o (pos 0)) (found ∙ sym (get-variables name entries))
 
-pub value-none : (name : List ℕ) (entries : List (Bor (List ℕ) × ℤ)) → None ≡ entry_at name entries → pos 0 ≡ value_of (variables_of entries) name
+pub value-none : (name : List ℕ) (entries : List (Bor (List ℕ) × ℤ)) → None ≡ entry_at name entries → pos 0 ≡ variable_at (variables_of entries) name
 value-none name entries missing = ap (λ (o : Option ℤ). unwrap_or o (pos 0)) (missing ∙ sym (get-variables name entries))
 
 pub variables-assigned : (old new : BTreeMap (Bor (List ℕ)) ℤ) (name : Bor (List ℕ)) (raw : ℤ) → Updates order old new name (Some raw)

@@ -1,15 +1,16 @@
 -- The answer to words and files.
-use Rattle.std.specs.Prelude.{ℕ, Bool, true, false, List, Option, Some, None}
-use Rattle.pay_dates.specs.declared.day.Day.{Day}
+use Rattle.std.specs.Prelude.{ℕ, List, Option, Some, None, Result, Ok, Err}
 use Rattle.pay_edge.specs.Edge.{Files, Whole, Missing, Long, Bytes, whole_of}
+use Rattle.pay_lexer.specs.declared.token.Token.{Token}
+use Rattle.pay_lexer.specs.Lexing.{tokens_in}
 use Rattle.pay_meaning.specs.Language.{Event, Script}
-use Rattle.pay_meaning.specs.Events.{events_of, shared_date}
-use Rattle.pay_tool.specs.declared.token.Token.{Token}
+use Rattle.pay_meaning.specs.Events.{events_of}
+use Rattle.pay_parser.specs.declared.parse_fault.ParseFault.{ParseFault}
+use Rattle.pay_parser.specs.declared.parse_fault.ParseFault.TheVariants as parsing
+use Rattle.pay_parser.specs.Parsing.{parsed}
 use Rattle.pay_tool.specs.declared.refusal.Refusal.{Refusal}
-use Rattle.pay_tool.specs.declared.refusal.Refusal.TheVariants.{TooLong, NotScript, SameDate, NotTable}
-use Rattle.pay_tool.specs.Lexing.{tokens_in}
-use Rattle.pay_tool.specs.Reading.{script_in}
-use Rattle.pay_tool.specs.Limits.{is_within_limits}
+use Rattle.pay_tool.specs.declared.refusal.Refusal.TheVariants.{TooLong, BadByte, TooLarge, TooDeep, NotScript, NotTable}
+use Rattle.pay_tool.specs.Limits.{first_of, script_refusals}
 use Rattle.pay_tool.specs.Tables.{Table}
 use Rattle.pay_tool.specs.TableReading.{scenarios_in}
 use Rattle.pay_tool.specs.Report.{report_text}
@@ -27,31 +28,32 @@ input_of check Missing = not_there
 input_of check Long = bad TooLong
 input_of check (Bytes bytes) = check bytes
 
--- these events, unless there is a date that two of them share
-abbrev pub events_unless : Option Day → List Event → Input (List Event)
-events_unless None events = good events
-events_unless (Some date) events = bad (SameDate date)
+-- a value, unless it is refused
+abbrev pub unless : {A : Type 0} → Option Refusal → A → Input A
+unless None value = good value
+unless (Some refusal) value = bad refusal
 
--- the events of a script in order of date, where no two share a date
-abbrev pub ordered : Script → Input (List Event)
-ordered script = events_unless (shared_date (events_of script)) (events_of script)
+-- the events of a script in order of date, unless the script is refused for its events or its parts
+abbrev pub prepared : Script → Input (List Event)
+prepared script = unless (first_of (script_refusals script)) (events_of script)
 
--- the events of a script within the limits
-abbrev pub script_within : Bool → Script → Input (List Event)
-script_within false script = bad NotScript
-script_within true script = ordered script
+-- why tokens spell no script within the limits of tokens
+abbrev pub refusal_of : ParseFault → Refusal
+refusal_of (parsing.TooLarge at) = TooLarge at
+refusal_of (parsing.TooDeep at) = TooDeep at
+refusal_of fault = NotScript
 
-abbrev pub script_if : List Token → Option Script → Input (List Event)
-script_if tokens None = bad NotScript
-script_if tokens (Some script) = script_within (is_within_limits tokens script) script
+abbrev pub parsed_input : Result Script ParseFault → Input (List Event)
+parsed_input (Err fault) = bad (refusal_of fault)
+parsed_input (Ok script) = prepared script
 
-abbrev pub tokens_if : Option (List Token) → Input (List Event)
-tokens_if None = bad NotScript
-tokens_if (Some tokens) = script_if tokens (script_in tokens)
+abbrev pub lexed_input : Result (List Token) ℕ → Input (List Event)
+lexed_input (Err place) = bad (BadByte place)
+lexed_input (Ok tokens) = parsed_input (parsed tokens)
 
--- the events of a script's text: tokens, a script, the limits, and then the dates are asked for
+-- the events of a script's text: its tokens are asked for, the limits of tokens, a script, and then its events and parts
 unfoldable pub checked_script : List ℕ → Input (List Event)
-checked_script bytes = tokens_if (tokens_in bytes)
+checked_script bytes = lexed_input (tokens_in bytes)
 
 abbrev pub table_if : Option Table → Input Table
 table_if None = bad NotTable
@@ -74,23 +76,18 @@ script_of files name = input_of checked_script (whole_of files name script_limit
 abbrev pub table_of : Files → List ℕ → Input Table
 table_of files name = input_of checked_table (whole_of files name table_limit)
 
--- a file that a request changes, and its bytes afterwards
-pub record Change : Type 0 where
-  pub target : List ℕ
-  pub bytes : List ℕ
-
 -- The answer: the words are no request; or the first input that isn't accepted is this file, which isn't there;
--- or it is this file, which is refused; or else a report, with its status, its text and what it changes.
+-- or it is this file, which is refused; or else a report with this text.
 pub data Answer : Type 0 where
   no_request : Answer
   absent : List ℕ → Answer
   refused : List ℕ → Refusal → Answer
-  report : ℕ → List ℕ → Option Change → Answer
+  report : List ℕ → Answer
 
 abbrev pub run_table : List Event → List ℕ → Input Table → Answer
 run_table events name not_there = absent name
 run_table events name (bad refusal) = refused name refusal
-run_table events name (good table) = report 0 (report_text events table) None
+run_table events name (good table) = report (report_text events table)
 
 abbrev pub run_script : List ℕ → Input (List Event) → List ℕ → Input Table → Answer
 run_script script not_there name table = absent script

@@ -1,15 +1,18 @@
--- The headline: a run that is done has written what the script means in each scenario.
-use Rattle.std.specs.Prelude.{◌≡◌, ◌≤◌, ℕ, ℤ, IsTrue, List, length, ◌++◌, map, Some}
+-- The headline: what was written is what the script means in each scenario.
+use Rattle.std.specs.Prelude.{◌≡◌, ◌≤◌, ℕ, ℤ, List, length, ◌++◌, map, Some}
 use Rattle.std.specs.List.{flat_map}
 use Rattle.std.specs.FinMap.{get}
 use Rattle.pay_edge.specs.Edge.{Files}
 use Rattle.pay_meaning.specs.Language.{Script}
 use Rattle.pay_meaning.specs.Meaning.{meaning, no_variables, fixings_of}
 use Rattle.pay_meaning.specs.Events.{event_of, events_of, IsShared}
-use Rattle.pay_tool.specs.declared.token.Token.{Token}
-use Rattle.pay_tool.specs.Tokens.{SpellsTokens}
-use Rattle.pay_tool.specs.Grammar.{SpellsScript}
-use Rattle.pay_tool.specs.Limits.{is_within_limits}
+use Rattle.pay_meaning.specs.Parts.{script_parts}
+use Rattle.pay_lexer.specs.declared.token.Token.{Token}
+use Rattle.pay_lexer.specs.Spelling.{SpellsTokens}
+use Rattle.pay_lexer.specs.Lexing.{kinds}
+use Rattle.pay_parser.specs.Grammar.{SpellsScript}
+use Rattle.pay_parser.specs.TokenLimits.{IsWithin}
+use Rattle.pay_tool.specs.Limits.{event_limit, KeepsLimits}
 use Rattle.pay_tool.specs.Tables.{Table, SpellsTable}
 use Rattle.pay_tool.specs.Report.{header_line, last_line, scenario_lines}
 use Rattle.pay_tool.specs.Requests.{run, request_of}
@@ -29,15 +32,15 @@ pub record PaysAsMeant (words : List (List ℕ)) (files : Files) (before after :
   pub tokens : List Token
   pub spells_tokens : SpellsTokens script_bytes tokens
   pub script : Script
-  pub spells_script : SpellsScript tokens script
+  pub spells_script : SpellsScript (kinds tokens) script
   pub dates : (number : ℤ) → ¬ IsShared number (map event_of script)
   pub table : Table
   pub spells_table : SpellsTable table_bytes table
   pub text : after ≡ before ++ (header_line
       ++ (flat_map (λ row. scenario_lines row.label (meaning (events_of script) no_variables (fixings_of table.dates row.cells))) table.rows ++ last_line))
 
--- The words ask for a run of two files, neither of which is too long. The bytes of the first spell tokens that spell a script within the
--- limits, no two of whose events have one date. The bytes of the second spell a table.
+-- The words ask for a run of two files, neither of which is too long. The bytes of the first spell tokens none of which passes a limit, and
+-- which spell a script that keeps its limits, no two of whose events have one date. The bytes of the second spell a table.
 pub record IsPayable (words : List (List ℕ)) (files : Files) : Type 0 where
   pub script_name : List ℕ
   pub table_name : List ℕ
@@ -50,9 +53,11 @@ pub record IsPayable (words : List (List ℕ)) (files : Files) : Type 0 where
   pub table_short : length table_bytes ≤ table_limit
   pub tokens : List Token
   pub spells_tokens : SpellsTokens script_bytes tokens
+  pub within : IsWithin tokens
   pub script : Script
-  pub spells_script : SpellsScript tokens script
-  pub within_limits : IsTrue (is_within_limits tokens script)
+  pub spells_script : SpellsScript (kinds tokens) script
+  pub few_events : length script ≤ event_limit
+  pub keeps : KeepsLimits (script_parts script)
   pub dates : (number : ℤ) → ¬ IsShared number (map event_of script)
   pub table : Table
   pub spells_table : SpellsTable table_bytes table

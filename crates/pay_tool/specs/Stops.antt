@@ -1,21 +1,24 @@
 -- Why a check stopped.
-use Rattle.std.specs.Prelude.{◌≡◌, ℕ, List}
+use Rattle.std.specs.Prelude.{◌≡◌, ℕ, List, Option, Some}
+use Rattle.pay_lexer.specs.declared.fault.LexFault.{LexFault}
+use Rattle.pay_lexer.specs.declared.fault.LexFault.TheVariants as lexing
+use Rattle.pay_parser.specs.declared.parse_fault.ParseFault.{ParseFault}
+use Rattle.pay_parser.specs.declared.parse_fault.ParseFault.TheVariants as parsing
 use Rattle.pay_tool.specs.declared.script.CheckStop.{CheckStop}
 use Rattle.pay_tool.specs.declared.script.CheckStop.TheVariants.{Refused, NoMemory}
-use Rattle.pay_tool.specs.declared.lexer.LexFault.{LexFault}
-use Rattle.pay_tool.specs.declared.lexer.LexFault.TheVariants as lexing
-use Rattle.pay_tool.specs.declared.parse_fault.ParseFault.{ParseFault}
-use Rattle.pay_tool.specs.declared.parse_fault.ParseFault.TheVariants as parsing
-use Rattle.pay_tool.specs.declared.refusal.Refusal.TheVariants.{NotScript}
+use Rattle.pay_tool.specs.declared.refusal.Refusal.{Refusal}
+use Rattle.pay_tool.specs.declared.refusal.Refusal.TheVariants.{BadByte, TooLarge, TooDeep, NotScript}
 use Rattle.pay_tool.specs.Answers.{Input, bad, checked_script}
 
 -- the stop of a text that was not cut into tokens
 abbrev pub stop_of_lexing : LexFault → CheckStop
-stop_of_lexing lexing.NoToken = Refused NotScript
+stop_of_lexing (lexing.BadByte at) = Refused (BadByte at)
 stop_of_lexing lexing.NoMemory = NoMemory
 
 -- the stop of tokens that were not read as a script
 abbrev pub stop_of_parsing : ParseFault → CheckStop
+stop_of_parsing (parsing.TooLarge at) = Refused (TooLarge at)
+stop_of_parsing (parsing.TooDeep at) = Refused (TooDeep at)
 stop_of_parsing parsing.NotScript = Refused NotScript
 stop_of_parsing parsing.NoMemory = NoMemory
 
@@ -23,6 +26,11 @@ stop_of_parsing parsing.NoMemory = NoMemory
 abbrev pub Stops : {A : Type 0} → Input A → CheckStop → Type 0
 Stops input (Refused refusal) = input ≡ bad refusal
 Stops input NoMemory = Unit {0}
+
+-- there is a refusal, and it is this one; of want of memory nothing is said
+abbrev pub StopsFor : Option Refusal → CheckStop → Type 0
+StopsFor found (Refused refusal) = found ≡ Some refusal
+StopsFor found NoMemory = Unit {0}
 
 -- the same of a script's text
 abbrev pub StopsScript : List ℕ → CheckStop → Type 0

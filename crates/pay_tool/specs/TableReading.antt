@@ -8,14 +8,14 @@ use Rattle.pay_fixed.specs.declared.NumberFault.{NumberFault}
 use Rattle.pay_tool.specs.Tables.{Row, Table, is_label, is_fixing, are_distinct, table_word}
 
 -- these pieces, with a byte at the front of the first
-abbrev pub begin_with : ℕ → List (List ℕ) → List (List ℕ)
-begin_with byte [] = (byte ∷ []) ∷ []
-begin_with byte (piece ∷ rest) = (byte ∷ piece) ∷ rest
+abbrev pub begin_piece : ℕ → List (List ℕ) → List (List ℕ)
+begin_piece byte [] = (byte ∷ []) ∷ []
+begin_piece byte (piece ∷ rest) = (byte ∷ piece) ∷ rest
 
--- what stands before, between and behind the marks of a text: one piece more than it has marks
+-- what stands before, between and after the marks of a text: one piece more than it has marks
 abbrev pub pieces : ℕ → List ℕ → List (List ℕ)
 pieces mark [] = [] ∷ []
-pieces mark (byte ∷ rest) = if byte == mark then [] ∷ pieces mark rest else begin_with byte (pieces mark rest)
+pieces mark (byte ∷ rest) = if byte == mark then [] ∷ pieces mark rest else begin_piece byte (pieces mark rest)
 
 -- the pieces of a text that may be missing, which then has none
 abbrev pub pieces_if : ℕ → Option (List ℕ) → List (List ℕ)
@@ -62,12 +62,12 @@ row_of columns (label ∷ rest) = if is_label label then row_if label (full_if c
 abbrev pub row_in : ℕ → List ℕ → Option Row
 row_in columns line = row_of columns (pieces 44 line)
 
--- nothing may stand behind the last line feed
+-- nothing may stand after the last line feed
 abbrev pub no_rows_if : List ℕ → Option (List Row)
 no_rows_if [] = Some []
 no_rows_if (byte ∷ rest) = None
 
--- the rows of lines, where the last piece is what stands behind the last line feed
+-- the rows of lines, where the last piece is what stands after the last line feed
 abbrev pub rows_in : ℕ → List (List ℕ) → Option (List Row)
 rows_in columns [] = None
 rows_in columns (last ∷ []) = no_rows_if last

@@ -2,8 +2,8 @@
 use Rattle.std.specs.Prelude.{map}
 use Rattle.pay_tool.specs.declared.scenarios.ScenarioRow.{ScenarioRow}
 use Rattle.pay_tool.specs.declared.scenarios.Scenarios.{Scenarios}
-use Rattle.pay_tool.specs.declared.scenarios.LabelFault.{LabelFault}
-use Rattle.pay_tool.specs.declared.scenarios.LabelFault.TheVariants as label
+use Rattle.pay_tool.specs.declared.label.LabelFault.{LabelFault}
+use Rattle.pay_tool.specs.declared.label.LabelFault.TheVariants as label
 use Rattle.pay_tool.specs.declared.table_reader.TableRefusal.{TableRefusal}
 use Rattle.pay_tool.specs.declared.table_reader.TableRefusal.TheVariants.{NotTable, NoMemory}
 use Rattle.pay_tool.specs.Tables.{Row, Table}

@@ -1,11 +1,12 @@
 -- The plain table of scenarios: which bytes spell which table.
-use Rattle.std.specs.Prelude.{◌≡◌, ℕ, ◌≤◌, All, nat_le, nat_eq, codes, Bool, true, not, ◌&&◌, ◌||◌, IsTrue, ℤ, unsigned_abs, List, [], ◌∷◌, ◌++◌, length, Option, Some, None}
+use Rattle.std.specs.Prelude.{◌≡◌, ℕ, ◌≤◌, All, nat_le, nat_eq, codes, Bool, true, not, ◌&&◌, ◌||◌, IsTrue, ℤ, unsigned_abs, List, [], ◌∷◌, ◌++◌}
+use Rattle.std.specs.Prelude.{length, Option, Some, None}
 use Rattle.std.specs.List.{list_any, list_all}
 use Rattle.std.specs.Ordering.{int_eq}
 use Rattle.pay_dates.specs.Days.{IsDay, day_text, day_number}
 use Rattle.pay_dates.specs.declared.day.Day.{Day}
 use Rattle.pay_fixed.specs.Grammar.{SpellsRaw}
-use Rattle.pay_tree.specs.Names.{is_digit, is_letter}
+use Rattle.pay_meaning.specs.Words.{is_digit, is_letter}
 
 -- a scenario: its label, and a raw or nothing for each date
 pub record Row : Type 0 where
@@ -41,18 +42,20 @@ pub data SpellsCell : List ℕ → Option ℤ → Type 0 where
 -- cells, a comma before each
 pub data SpellsCells : List ℕ → List (Option ℤ) → Type 0 where
   no_cell : SpellsCells [] []
-  next_cell : (bytes rest : List ℕ) (cell : Option ℤ) (cells : List (Option ℤ)) → SpellsCell bytes cell → SpellsCells rest cells → SpellsCells (44 ∷ (bytes ++ rest)) (cell ∷ cells)
+  next_cell : (bytes rest : List ℕ) (cell : Option ℤ) (cells : List (Option ℤ)) → SpellsCell bytes cell → SpellsCells rest cells
+      → SpellsCells (44 ∷ (bytes ++ rest)) (cell ∷ cells)
 
 -- days, a comma before each
 pub data SpellsDates : List ℕ → List Day → Type 0 where
   no_date : SpellsDates [] []
   next_date : (rest : List ℕ) (date : Day) (dates : List Day) → IsDay date → SpellsDates rest dates → SpellsDates (44 ∷ (day_text date ++ rest)) (date ∷ dates)
 
--- lines of a label and this many cells, a line feed behind each
+-- lines of a label and this many cells, a line feed after each
 pub data SpellsRows : ℕ → List ℕ → List Row → Type 0 where
   no_row : (columns : ℕ) → SpellsRows columns [] []
   next_row : (columns : ℕ) (label bytes rest : List ℕ) (cells : List (Option ℤ)) (rows : List Row) → IsTrue (is_label label) → SpellsCells bytes cells
-      → length cells ≡ columns → SpellsRows columns rest rows → SpellsRows columns (label ++ (bytes ++ 10 ∷ rest)) (record { label = label; cells = cells } ∷ rows)
+      → length cells ≡ columns → SpellsRows columns rest rows
+      → SpellsRows columns (label ++ (bytes ++ 10 ∷ rest)) (record { label = label; cells = cells } ∷ rows)
 
 -- no two days are one
 abbrev pub are_distinct : List Day → Bool

@@ -1,25 +1,47 @@
--- Which answers there are to words and files, and that there is one.
-use Rattle.std.specs.Prelude.{◌≡◌, ℕ, List, Some, None}
+-- Which answers there are to words and files, in the words of the grammar, and that there is one.
+use Rattle.std.specs.Prelude.{◌≡◌, ℕ, ◌≤◌, ◌<◌, List, length, Option, Some, None}
+use Rattle.std.specs.FinMap.{get}
 use Rattle.pay_edge.specs.Edge.{Files}
 use Rattle.pay_meaning.specs.Language.{Event}
 use Rattle.pay_tool.specs.declared.refusal.Refusal.{Refusal}
-use Rattle.pay_tool.specs.Tables.{Table}
+use Rattle.pay_tool.specs.declared.refusal.Refusal.TheVariants.{TooLong}
+use Rattle.pay_tool.specs.Tables.{Table, SpellsTable}
 use Rattle.pay_tool.specs.Report.{report_text}
 use Rattle.pay_tool.specs.Requests.{run, request_of}
-use Rattle.pay_tool.specs.Answers.{not_there, bad, good, script_of, table_of, Answer, no_request, absent, refused, report, answer_of}
+use Rattle.pay_tool.specs.Answers.{Input, not_there, bad, good, script_limit, table_limit, Answer, no_request, absent, refused, report, answer_of}
+use Rattle.pay_tool.specs.CheckLaws.{IsScriptText, IsScriptFault, IsTableFault}
+
+-- What a file is as an input, where these bytes give a value and those have a fault: it is not there; or it is longer than its limit; or its
+-- bytes have a fault; or they give a value.
+pub data IsInput {A : Type 0} (Gives : List ℕ → A → Type 0) (HasFault : List ℕ → Refusal → Type 0)
+    (limit : ℕ) (file : Option (List ℕ)) : Input A → Type 0 where
+  no_file : file ≡ None → IsInput Gives HasFault limit file not_there
+  too_long : (bytes : List ℕ) → file ≡ Some bytes → limit < length bytes → IsInput Gives HasFault limit file (bad TooLong)
+  with_fault : (bytes : List ℕ) (refusal : Refusal) → file ≡ Some bytes → length bytes ≤ limit → HasFault bytes refusal
+      → IsInput Gives HasFault limit file (bad refusal)
+  with_value : (bytes : List ℕ) (value : A) → file ≡ Some bytes → length bytes ≤ limit → Gives bytes value → IsInput Gives HasFault limit file (good value)
+
+-- the file of this name as a script, and as a table
+abbrev pub IsScriptInput : Files → List ℕ → Input (List Event) → Type 0
+IsScriptInput files name input = IsInput IsScriptText IsScriptFault script_limit (get files name) input
+
+abbrev pub IsTableInput : Files → List ℕ → Input Table → Type 0
+IsTableInput files name input = IsInput SpellsTable IsTableFault table_limit (get files name) input
 
 -- The words are no request; or they ask for a run, and its script is not there, or is refused; or it is accepted, and the scenarios are not
--- there, or are refused; or both are accepted, and the answer is their report, which changes no file.
+-- there, or are refused; or both are accepted, and the answer is their report.
 pub data IsAnswer (words : List (List ℕ)) (files : Files) : Answer → Type 0 where
   without_request : request_of words ≡ None → IsAnswer words files no_request
-  script_absent : (script scenarios : List ℕ) → request_of words ≡ Some (run script scenarios) → script_of files script ≡ not_there → IsAnswer words files (absent script)
-  script_refused : (script scenarios : List ℕ) (refusal : Refusal) → request_of words ≡ Some (run script scenarios) → script_of files script ≡ bad refusal → IsAnswer words files (refused script refusal)
-  scenarios_absent : (script scenarios : List ℕ) (events : List Event) → request_of words ≡ Some (run script scenarios) → script_of files script ≡ good events
-      → table_of files scenarios ≡ not_there → IsAnswer words files (absent scenarios)
-  scenarios_refused : (script scenarios : List ℕ) (events : List Event) (refusal : Refusal) → request_of words ≡ Some (run script scenarios) → script_of files script ≡ good events
-      → table_of files scenarios ≡ bad refusal → IsAnswer words files (refused scenarios refusal)
-  accepted : (script scenarios : List ℕ) (events : List Event) (table : Table) → request_of words ≡ Some (run script scenarios) → script_of files script ≡ good events
-      → table_of files scenarios ≡ good table → IsAnswer words files (report 0 (report_text events table) None)
+  script_absent : (script scenarios : List ℕ) → request_of words ≡ Some (run script scenarios) → IsScriptInput files script not_there
+      → IsAnswer words files (absent script)
+  script_refused : (script scenarios : List ℕ) (refusal : Refusal) → request_of words ≡ Some (run script scenarios)
+      → IsScriptInput files script (bad refusal) → IsAnswer words files (refused script refusal)
+  scenarios_absent : (script scenarios : List ℕ) (events : List Event) → request_of words ≡ Some (run script scenarios)
+      → IsScriptInput files script (good events) → IsTableInput files scenarios not_there → IsAnswer words files (absent scenarios)
+  scenarios_refused : (script scenarios : List ℕ) (events : List Event) (refusal : Refusal) → request_of words ≡ Some (run script scenarios)
+      → IsScriptInput files script (good events) → IsTableInput files scenarios (bad refusal) → IsAnswer words files (refused scenarios refusal)
+  accepted : (script scenarios : List ℕ) (events : List Event) (table : Table) → request_of words ≡ Some (run script scenarios)
+      → IsScriptInput files script (good events) → IsTableInput files scenarios (good table) → IsAnswer words files (report (report_text events table))
 
 -- this is an answer, and there is no other
 pub record IsOnlyAnswer (words : List (List ℕ)) (files : Files) (answer : Answer) : Type 0 where

@@ -4,7 +4,7 @@ ghost use Rattle.std.specs.Prelude.{◌≡◌, ℤ, IfOk, IsTrue, map};
 ghost use Rattle.std.specs.Ordering.{int_cmp};
 ghost use Rattle.std.specs.BTreeMap.{get};
 ghost use Rattle.pay_dates.specs.Days.{day_number};
-ghost use Rattle.pay_tree.specs.Views.{event};
+ghost use Rattle.pay_tree.specs.Views as view;
 ghost use Rattle.pay_tool.specs.Columns.{place_of, columns_of};
 ghost use Rattle.pay_tool.specs.Cells.{cell_at};
 ghost use Rattle.pay_tool.specs.Tables.{are_distinct};
@@ -46,12 +46,12 @@ pub fn columns_of_events(
     dates: &[Day],
 ) -> Result<Vec<Option<usize>>, NoMemory>
     requires { IsTrue (are_distinct dates.now) }
-    ensures { IfOk result (λ columns. columns.items ≡ columns_of dates.now (map event events.now)) }
+    ensures { IfOk result (λ columns. columns.items ≡ columns_of dates.now (map view.event events.now)) }
 {
     let places = places_of(alloc, dates)?;
     let mut columns = Vec::new(alloc);
-    for happening in events {
-        columns.push(place_at(&places, happening.date))?;
+    for event in events {
+        columns.push(place_at(&places, event.date))?;
     }
     Ok(columns)
 }

@@ -1,11 +1,12 @@
 //! The events of a script in order of date.
 
-ghost use Rattle.std.specs.Prelude.{◌≡◌, IfOk, IfErr, OnOk, map};
-ghost use Rattle.pay_meaning.specs.Events.{in_order, shared_date, shares_with_next};
+ghost use Rattle.std.specs.Prelude.{◌≡◌, None, IfOk, IfErr, OnOk, map};
+ghost use Rattle.std.specs.Option.{option_map};
+ghost use Rattle.pay_meaning.specs.Events.{events_of, in_order, shared_date, shares_with_next};
 ghost use Rattle.pay_tree.specs.Views.{event, script};
-ghost use Rattle.pay_tool.specs.Answers.{good, ordered};
+ghost use Rattle.pay_tool.specs.declared.refusal.Refusal.TheVariants.{SameDate};
 ghost use Rattle.pay_tool.specs.EventOrder.{named};
-ghost use Rattle.pay_tool.specs.Stops.{Stops};
+ghost use Rattle.pay_tool.specs.Stops.{StopsFor};
 
 use crate::refusal::Refusal;
 use crate::script::CheckStop;
@@ -20,8 +21,9 @@ use std::alloc::Global;
 ///
 /// `Refused(SameDate)` with the earliest date that two of them share, `NoMemory` where there was no memory for them.
 pub fn events_in_order(alloc: Global, tree: Script) -> Result<Vec<NamedEvent>, CheckStop>
-    ensures accepted { IfOk result (λ events. ordered (script tree) ≡ good (map event events.items)) }
-    ensures refused { IfErr result (Stops (ordered (script tree))) }
+    ensures events { IfOk result (λ events. events_of (script tree) ≡ map event events.items) }
+    ensures distinct { OnOk result (shared_date (events_of (script tree)) ≡ None) }
+    ensures refused { IfErr result (StopsFor (option_map (λ date. SameDate date) (shared_date (events_of (script tree))))) }
 {
     let mut events = events_of_items(alloc, tree.items)?;
     sort_by_date(&mut events)?;

@@ -1,7 +1,7 @@
-//! The inputs of a run, each fetched whole and then checked.
+//! The inputs of a request, each fetched whole and then checked.
 
 ghost use Rattle.std.specs.Prelude.{◌≡◌, ◌+◌, ◌≤◌, IfOk, IfErr, IfSome, map};
-ghost use Rattle.pay_edge.specs.Edge.{OnlyRead};
+ghost use Rattle.pay_edge.specs.Edge.{OnlyRead, SameBut};
 ghost use Rattle.pay_tree.specs.Views.{event};
 ghost use Rattle.pay_tool.specs.Answers.{script_of, script_limit, table_of, table_limit, good};
 ghost use Rattle.pay_tool.specs.InputStops.{StopsAt};
@@ -89,6 +89,7 @@ pub fn read_script<D: Depot>(
     name: &str,
 ) -> Result<Vec<NamedEvent>, InputStop>
     ensures reads { OnlyRead D.files D.read_faults D.write_faults depot.old depot.new }
+    ensures other_names { SameBut name.now (D.read_faults depot.old) (D.read_faults depot.new) }
     ensures fetches { D.fetches depot.new ≤ D.fetches depot.old + (script_limit + 1) }
     ensures accepted { IfOk result (λ events. IfSome (D.files depot.old) (λ files. script_of files name.now ≡ good (map event events.items))) }
     ensures stopped { IfErr result (StopsAt (D.files depot.old) (λ files. script_of files name.now)
@@ -112,6 +113,7 @@ pub fn read_table<D: Depot>(
     name: &str,
 ) -> Result<Scenarios, InputStop>
     ensures reads { OnlyRead D.files D.read_faults D.write_faults depot.old depot.new }
+    ensures other_names { SameBut name.now (D.read_faults depot.old) (D.read_faults depot.new) }
     ensures fetches { D.fetches depot.new ≤ D.fetches depot.old + (table_limit + 1) }
     ensures accepted { IfOk result (λ scenarios. IfSome (D.files depot.old) (λ files. table_of files name.now ≡ good (table scenarios))) }
     ensures aligned { IfOk result (λ scenarios. IsAligned (table scenarios)) }

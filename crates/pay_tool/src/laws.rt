@@ -1,17 +1,28 @@
 //! Laws that show that the definitions are the ones meant.
 
-ghost use Rattle.pay_tool.specs.RefusalLaws.{ScriptRefusalHasCause, TableRefusalHasCause};
+ghost use Rattle.pay_tool.specs.CheckLaws.{ScriptAcceptanceHasCause, ScriptRefusalHasCause, TableAcceptanceHasCause, TableRefusalHasCause};
 ghost use Rattle.pay_tool.specs.ToolLaws.{OneAnswer};
 
-/// Words and files have exactly one answer: that of `answer_of`.
+/// Words and files have exactly one answer, in the words of the grammar: that of `answer_of`.
 pub fn one_answer()
     ensures { OneAnswer }
 {}
 
-/// A script's text is refused exactly where it spells no script within the limits, and then, with the earliest date that
-/// two events have, exactly where there is such a date.
+/// A script's text is accepted exactly where it spells a script that keeps its limits, no two of whose events have one
+/// date, and gives that script's events in order.
+pub fn script_acceptance_has_cause()
+    ensures { ScriptAcceptanceHasCause }
+{}
+
+/// A script's text is refused exactly for its fault: the first place where nothing begins, the first token that passes a
+/// limit, no script, too many events, the earliest date that two of them have, or too many parts.
 pub fn script_refusal_has_cause()
     ensures { ScriptRefusalHasCause }
+{}
+
+/// A table's text is accepted exactly where it spells a table, and gives that table.
+pub fn table_acceptance_has_cause()
+    ensures { TableAcceptanceHasCause }
 {}
 
 /// A table's text is refused exactly where it spells no table.

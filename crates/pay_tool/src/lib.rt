@@ -1,7 +1,7 @@
 //! The tool: what the words of a command line ask for, done over a depot of files and a sink of text.
 //!
 //! `run_tool` is the whole of it. It reads the request, fetches each file whole and checks it, and only then puts the
-//! report, piece by piece. Its contract has a clause for each exit status. The clause `pays_as_meant` says that a run
+//! report, piece by piece. Its contract says of each exit status but 6, want of memory, why it comes. The clause `pays_as_meant` says that a run
 //! with status 0 has put, for each scenario in the order of its file, the payments that the script means there.
 //!
 //! # Example
@@ -19,37 +19,34 @@
 //! ```
 #![tactic(auto)]
 
+mod aligned;
 mod columns;
 mod events;
+mod exit;
 mod file_name;
-pub mod grammar_laws;
 mod input;
-mod keyword;
+mod label;
 pub mod laws;
-mod lexer;
-pub mod lexing_laws;
 mod limits;
 mod names;
 mod outcome;
-mod parse_fault;
-mod parser;
-mod place;
+mod parts;
+mod prepare;
 mod put;
 mod refusal;
 mod report;
 mod request;
 mod run;
-mod run_row;
-mod scenario_run;
 mod scenarios;
 mod script;
 pub mod table_laws;
 mod table_reader;
-mod token;
 mod tool;
 mod variables;
 mod walker;
 
 pub use file_name::FileName;
+pub use refusal::{Refusal, What};
 pub use request::{Request, RunWords, WordsFault, request_of_words};
+pub use script::{CheckStop, check_script};
 pub use tool::run_tool;

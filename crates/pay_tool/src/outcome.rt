@@ -1,68 +1,28 @@
-//! How a run of the tool ended.
+//! What the events of a scenario gave.
 
-ghost use Rattle.std.specs.Prelude.{◌≡◌};
-ghost use Rattle.pay_tool.specs.Outcomes.{status_of};
+use crate::walker::Payment;
+use pay_dates::Day;
+use pay_meaning::FaultKind;
 
-use crate::input::InputStop;
-use crate::put::PutStop;
-use crate::refusal::Refusal;
-
-/// How a run of the tool ended.
+/// How the events of a scenario ended.
 #[derive(Clone, Copy, PartialEq, Eq, Debug)]
-pub enum Outcome {
-    /// The whole answer was given.
+pub enum End {
+    /// All of them ran.
     Done,
-    /// The words are no request.
-    NotRequest,
-    /// An input is refused.
-    Refused(Refusal),
-    /// An input could not be read, or its file is not there.
-    Unread,
-    /// The answer could not be put.
-    Unwritten,
-    /// There was no memory.
-    NoMemory,
+    /// The event of this date faulted.
+    Fault {
+        /// The date of the event.
+        date: Day,
+        /// Why it faulted.
+        kind: FaultKind,
+    },
 }
 
-impl From<InputStop> for Outcome {
-    ghost use Rattle.std.specs.Prelude.{◌≡◌};
-    ghost use Rattle.pay_tool.specs.Outcomes.{outcome_at};
-
-    ghost from_gives = { λ stop outcome. outcome ≡ outcome_at stop };
-
-    fn from(stop: InputStop) -> Outcome {
-        match stop {
-            InputStop::Refused(refusal) => Outcome::Refused(refusal),
-            InputStop::Unread => Outcome::Unread,
-            InputStop::NoMemory => Outcome::NoMemory,
-        }
-    }
-}
-
-impl From<PutStop> for Outcome {
-    ghost use Rattle.std.specs.Prelude.{◌≡◌};
-    ghost use Rattle.pay_tool.specs.Outcomes.{outcome_of_put};
-
-    ghost from_gives = { λ stop outcome. outcome ≡ outcome_of_put stop };
-
-    fn from(stop: PutStop) -> Outcome {
-        match stop {
-            PutStop::Failed => Outcome::Unwritten,
-            PutStop::NoMemory => Outcome::NoMemory,
-        }
-    }
-}
-
-/// The exit status of an outcome: 0, or 2 to 6.
-pub fn status_of(outcome: Outcome) -> u8
-    ensures { result ≡ status_of outcome }
-{
-    match outcome {
-        Outcome::Done => 0,
-        Outcome::NotRequest => 2,
-        Outcome::Refused(_) => 3,
-        Outcome::Unread => 4,
-        Outcome::Unwritten => 5,
-        Outcome::NoMemory => 6,
-    }
+/// What the events of a scenario paid, in order, and how they ended.
+#[derive(Drop)]
+pub struct Outcome<'a> {
+    /// The payments, in order.
+    pub payments: Vec<Payment<'a>>,
+    /// How the events ended.
+    pub end: End,
 }

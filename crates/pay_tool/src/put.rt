@@ -1,18 +1,16 @@
 //! The report, put in pieces.
 
-ghost use Rattle.std.specs.Prelude.{◌≡◌, ◌≤◌, OnOk, IfErr, IsErrOf, IsTrue, All, length, map};
+ghost use Rattle.std.specs.Prelude.{◌≡◌, ◌≤◌, OnOk, IfErr, IsErrOf, All, length, map};
 ghost use Rattle.std.specs.List.{flat_map};
 ghost use Rattle.pay_edge.specs.Edge.{Rose, appended, AppendsFront};
-ghost use Rattle.pay_tree.specs.Views.{event};
-ghost use Rattle.pay_tool.specs.Columns.{columns_of};
+ghost use Rattle.pay_tree.specs.Views as view;
 ghost use Rattle.pay_tool.specs.Report.{row_lines, report_text};
-ghost use Rattle.pay_tool.specs.Tables.{are_distinct, IsAligned};
+ghost use Rattle.pay_tool.specs.Tables.{IsAligned};
 ghost use Rattle.pay_tool.specs.TableViews.{row, table};
 
-use crate::columns::columns_of_events;
-use crate::run_row::write_row_lines;
+use crate::aligned::AlignedEvents;
+use crate::report::write_scenario;
 use crate::scenarios::{ScenarioRow, Scenarios};
-use pay_dates::Day;
 use pay_edge::Sink;
 use pay_fixed::NoMemory;
 use pay_tree::NamedEvent;
@@ -57,16 +55,14 @@ pub fn put_report<O: Sink>(
     out: &mut O,
 ) -> Result<(), PutStop>
     requires { IsAligned (table scenarios.now) }
-    ensures ok { OnOk result (O.text out.new ≡ appended (O.text out.old) (report_text (map event events.now) (table scenarios.now))) }
-    ensures front { AppendsFront (O.text out.old) (O.text out.new) (report_text (map event events.now) (table scenarios.now)) }
+    ensures ok { OnOk result (O.text out.new ≡ appended (O.text out.old) (report_text (map view.event events.now) (table scenarios.now))) }
+    ensures front { AppendsFront (O.text out.old) (O.text out.new) (report_text (map view.event events.now) (table scenarios.now)) }
     ensures failed { IsErrOf result PutStop.Failed → Rose (O.faults out.old) (O.faults out.new) }
     ensures never_falls { O.faults out.old ≤ O.faults out.new }
 {
-    let dates = scenarios.dates.as_slice();
-    let rows = scenarios.rows.as_slice();
-    let columns = columns_of_events(alloc, events, dates)?;
+    let aligned = AlignedEvents::new(alloc, events, scenarios.dates.as_slice())?;
     put_piece(out, HEADER_LINE)?;
-    put_rows(alloc, events, columns.as_slice(), dates, rows, out)?;
+    put_rows(alloc, &aligned, scenarios.rows.as_slice(), out)?;
     put_piece(out, LAST_LINE)
 }
 
@@ -87,22 +83,19 @@ fn put_piece<O: Sink>(out: &mut O, piece: &[u8]) -> Result<(), PutStop>
 /// Puts the lines of one scenario, if it has any.
 fn put_row<O: Sink>(
     alloc: Global,
-    events: &[NamedEvent],
-    columns: &[Option<usize>],
-    dates: &[Day],
+    events: &AlignedEvents<'_>,
     scenario: &ScenarioRow,
     out: &mut O,
 ) -> Result<(), PutStop>
-    requires distinct { IsTrue (are_distinct dates.now) }
-    requires aligned { columns.now ≡ columns_of dates.now (map event events.now) }
-    requires full { length scenario.now.cells.items ≡ length dates.now }
-    ensures ok { OnOk result (O.text out.new ≡ appended (O.text out.old) (row_lines (map event events.now) dates.now (row scenario.now))) }
-    ensures front { AppendsFront (O.text out.old) (O.text out.new) (row_lines (map event events.now) dates.now (row scenario.now)) }
+    requires full { length scenario.now.cells.items ≡ length events.now.dates.now }
+    ensures ok { OnOk result (O.text out.new ≡ appended (O.text out.old)
+        (row_lines (map view.event events.now.events.now) events.now.dates.now (row scenario.now))) }
+    ensures front { AppendsFront (O.text out.old) (O.text out.new) (row_lines (map view.event events.now.events.now) events.now.dates.now (row scenario.now)) }
     ensures failed { IsErrOf result PutStop.Failed → Rose (O.faults out.old) (O.faults out.new) }
     ensures never_falls { O.faults out.old ≤ O.faults out.new }
 {
     let mut lines = Vec::new(alloc);
-    write_row_lines(alloc, events, columns, dates, scenario, &mut lines)?;
+    write_scenario(alloc, events, scenario, &mut lines)?;
     if lines.is_empty() {
         return Ok(());
     }
@@ -112,22 +105,20 @@ fn put_row<O: Sink>(
 /// Puts the lines of scenarios in their order.
 fn put_rows<O: Sink>(
     alloc: Global,
-    events: &[NamedEvent],
-    columns: &[Option<usize>],
-    dates: &[Day],
+    events: &AlignedEvents<'_>,
     rows: &[ScenarioRow],
     out: &mut O,
 ) -> Result<(), PutStop>
-    requires distinct { IsTrue (are_distinct dates.now) }
-    requires aligned { columns.now ≡ columns_of dates.now (map event events.now) }
-    requires full { All (λ scenario. length scenario.cells ≡ length dates.now) (map row rows.now) }
-    ensures ok { OnOk result (O.text out.new ≡ appended (O.text out.old) (flat_map (row_lines (map event events.now) dates.now) (map row rows.now))) }
-    ensures front { AppendsFront (O.text out.old) (O.text out.new) (flat_map (row_lines (map event events.now) dates.now) (map row rows.now)) }
+    requires full { All (λ scenario. length scenario.cells ≡ length events.now.dates.now) (map row rows.now) }
+    ensures ok { OnOk result (O.text out.new ≡ appended (O.text out.old)
+        (flat_map (row_lines (map view.event events.now.events.now) events.now.dates.now) (map row rows.now))) }
+    ensures front { AppendsFront (O.text out.old) (O.text out.new)
+        (flat_map (row_lines (map view.event events.now.events.now) events.now.dates.now) (map row rows.now)) }
     ensures failed { IsErrOf result PutStop.Failed → Rose (O.faults out.old) (O.faults out.new) }
     ensures never_falls { O.faults out.old ≤ O.faults out.new }
 {
     for scenario in rows {
-        put_row(alloc, events, columns, dates, scenario, out)?;
+        put_row(alloc, events, scenario, out)?;
     }
     Ok(())
 }

@@ -1,17 +1,22 @@
-//! The lines of a run in the report.
+//! The lines of a scenario in the report.
 
-ghost use Rattle.std.specs.Prelude.{◌≡◌, ℕ, List, [], ◌∷◌, ◌++◌, OnOk, OnErr, map};
+ghost use Rattle.std.specs.Prelude.{◌≡◌, ℕ, List, [], ◌∷◌, ◌++◌, OnOk, OnErr, length, map};
 ghost use Rattle.pay_dates.specs.Days.{day_text};
 ghost use Rattle.pay_fixed.specs.Decimal.{decimal_text};
-ghost use Rattle.pay_tool.specs.Report.{fault_name, payment_line, payment_lines};
-ghost use Rattle.pay_tool.specs.Runs.{end_text};
+ghost use Rattle.pay_tree.specs.Views as view;
+ghost use Rattle.pay_tool.specs.Report.{fault_name, payment_line, payment_lines, row_lines};
+ghost use Rattle.pay_tool.specs.Outcomes.{end_text};
 ghost use Rattle.pay_tool.specs.RunViews.{payment};
+ghost use Rattle.pay_tool.specs.TableViews.{row};
 
-use crate::scenario_run::{End, Run};
+use crate::aligned::AlignedEvents;
+use crate::outcome::{End, Outcome};
+use crate::scenarios::ScenarioRow;
 use crate::walker::Payment;
 use pay_dates::{Day, write_day};
 use pay_fixed::{Fixed, NoMemory};
 use pay_meaning::FaultKind;
+use std::alloc::Global;
 
 /// Appends bytes; where there is no room, perhaps a part of them.
 fn put_bytes(bytes: &[u8], into: &mut Vec<u8>) -> Result<(), NoMemory>
@@ -50,7 +55,7 @@ fn put_amount(amount: Fixed, into: &mut Vec<u8>) -> Result<(), NoMemory>
     amount.write_decimal(into)
 }
 
-/// Appends the first two fields of a line, a comma behind each; where there is no room, perhaps a part of them.
+/// Appends the first two fields of a line, a comma after each; where there is no room, perhaps a part of them.
 #[tactic(auto, using(std::proofs::Common::append_assoc))]
 fn put_start(label: &[u8], date: Day, into: &mut Vec<u8>) -> Result<(), NoMemory>
     ensures ok { OnOk result (into.new.items ≡ into.old.items ++ (label.now ++ (44 ∷ (day_text date ++ 44 ∷ [])))) }
@@ -108,7 +113,7 @@ fn fault_text(kind: FaultKind) -> &'static [u8]
     }
 }
 
-/// Appends the line of a fault, if a run ended by one; where there is no room, perhaps a part of it.
+/// Appends the line of a fault, if a scenario ended by one; where there is no room, perhaps a part of it.
 #[tactic(auto, using(std::proofs::Common::append_assoc))]
 fn put_end(label: &[u8], end: End, into: &mut Vec<u8>) -> Result<(), NoMemory>
     ensures ok { OnOk result (into.new.items ≡ into.old.items ++ end_text label.now end) }
@@ -124,16 +129,38 @@ fn put_end(label: &[u8], end: End, into: &mut Vec<u8>) -> Result<(), NoMemory>
     }
 }
 
-/// Appends the lines of a run: its payments in order, and then its fault if it ended by one.
+/// Appends the lines of an outcome: its payments in order, and then its fault if it ended by one; where there is no room,
+/// perhaps a part of them.
+#[tactic(auto, using(std::proofs::Common::append_assoc))]
+fn put_outcome(label: &[u8], outcome: &Outcome<'_>, into: &mut Vec<u8>) -> Result<(), NoMemory>
+    ensures ok { OnOk result (into.new.items ≡ into.old.items
+        ++ (payment_lines label.now (map payment outcome.now.payments.items) ++ end_text label.now outcome.now.end)) }
+    ensures err { OnErr result ((more : List ℕ) × (into.new.items ≡ into.old.items ++ more)) }
+{
+    put_payments(label, outcome.payments.as_slice(), into)?;
+    put_end(label, outcome.end, into)
+}
+
+/// Appends the lines of one scenario to `into`: what its events pay, in order, and then its fault if it has one.
 ///
 /// # Errors
 ///
-/// [`NoMemory`] where there was no room for the lines; then `into` has perhaps a part of them.
-#[tactic(auto, using(std::proofs::Common::append_assoc))]
-pub fn put_run(label: &[u8], run: &Run<'_>, into: &mut Vec<u8>) -> Result<(), NoMemory>
-    ensures ok { OnOk result (into.new.items ≡ into.old.items ++ (payment_lines label.now (map payment run.now.payments.items) ++ end_text label.now run.now.end)) }
-    ensures err { OnErr result ((more : List ℕ) × (into.new.items ≡ into.old.items ++ more)) }
+/// [`NoMemory`] where there was no memory for the run of the events, or no room for its lines; then `into` is as before.
+pub fn write_scenario(
+    alloc: Global,
+    events: &AlignedEvents<'_>,
+    scenario: &ScenarioRow,
+    into: &mut Vec<u8>,
+) -> Result<(), NoMemory>
+    requires full { length scenario.now.cells.items ≡ length events.now.dates.now }
+    ensures ok { OnOk result (into.new.items ≡ into.old.items ++ row_lines (map view.event events.now.events.now) events.now.dates.now (row scenario.now)) }
+    ensures err { OnErr result (into.new.items ≡ into.old.items) }
 {
-    put_payments(label, run.payments.as_slice(), into)?;
-    put_end(label, run.end, into)
+    let outcome = events.run(alloc, scenario.cells.as_slice())?;
+    let before = into.len();
+    if put_outcome(scenario.label.bytes(), &outcome, into).is_err() {
+        into.truncate(before);
+        return Err(NoMemory);
+    }
+    Ok(())
 }

@@ -43,7 +43,7 @@ impl From<AllocError> for WordsFault {
     }
 }
 
-/// The request of the words behind a program's name: `run`, a script file and a scenario file.
+/// The request of the words after a program's name: `run`, a script file and a scenario file.
 ///
 /// # Errors
 ///

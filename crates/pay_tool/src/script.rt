@@ -1,19 +1,17 @@
 //! A script's text, checked whole: its tokens, its grammar, its limits and the dates of its events.
 
-ghost use Rattle.std.specs.Prelude.{◌≡◌, ◌≤◌, IfOk, IfErr, length, map};
+ghost use Rattle.std.specs.Prelude.{◌≡◌, ◌≤◌, ◌^◌, IfOk, IfErr, length, map};
+ghost use Rattle.pay_lexer.specs.declared.fault.LexFault.{LexFault};
+ghost use Rattle.pay_parser.specs.Parsing.{parsed};
 ghost use Rattle.pay_tree.specs.Views.{event};
-ghost use Rattle.pay_tool.specs.Answers.{checked_script, script_if, good};
-ghost use Rattle.pay_tool.specs.Reading.{script_in};
+ghost use Rattle.pay_tool.specs.Answers.{checked_script, parsed_input, good};
 ghost use Rattle.pay_tool.specs.Stops.{Stops, StopsScript};
 
-use crate::events::events_in_order;
-use crate::lexer::{LexFault, lex};
-use crate::limits::is_within_limits;
-use crate::parse_fault::ParseFault;
-use crate::parser::parse;
+use crate::prepare::prepare;
 use crate::refusal::Refusal;
-use crate::token::Token;
 use pay_fixed::NoMemory;
+use pay_lexer::{LexFault, Token, lex};
+use pay_parser::{ParseFault, parse};
 use pay_tree::NamedEvent;
 use std::alloc::Global;
 
@@ -34,7 +32,7 @@ impl From<LexFault> for CheckStop {
 
     fn from(fault: LexFault) -> CheckStop {
         match fault {
-            LexFault::NoToken => CheckStop::Refused(Refusal::NotScript),
+            LexFault::BadByte { at } => CheckStop::Refused(Refusal::BadByte { at }),
             LexFault::NoMemory => CheckStop::NoMemory,
         }
     }
@@ -48,6 +46,8 @@ impl From<ParseFault> for CheckStop {
 
     fn from(fault: ParseFault) -> CheckStop {
         match fault {
+            ParseFault::TooLarge { at } => CheckStop::Refused(Refusal::TooLarge { at }),
+            ParseFault::TooDeep { at } => CheckStop::Refused(Refusal::TooDeep { at }),
             ParseFault::NotScript => CheckStop::Refused(Refusal::NotScript),
             ParseFault::NoMemory => CheckStop::NoMemory,
         }
@@ -67,13 +67,17 @@ impl From<NoMemory> for CheckStop {
 
 /// The events of a script's text, in order of date.
 ///
+/// `text` has at most 2^20 bytes.
+///
 /// # Errors
 ///
-/// `Refused(NotScript)` where the text has no tokens, or they spell no script, or a limit of scripts is passed;
-/// then `Refused(SameDate)` with the earliest date that two items have; `NoMemory` where there was no memory.
+/// `Refused` with the first that holds of these: `BadByte` with the first place where neither a blank, a comment nor a
+/// token begins; `TooLarge`, and then `TooDeep`, with the place of the first token that passes a limit; `NotScript` where
+/// the tokens spell no script; `TooMany` events; `SameDate` with the earliest date that two items have; `TooMany` nodes,
+/// payments, variables or legs. `NoMemory` where there was no memory.
 #[tactic(auto, unfolding(crate::specs::Answers::checked_script))]
 pub fn check_script(alloc: Global, text: &[u8]) -> Result<Vec<NamedEvent>, CheckStop>
-    requires { length text.now ≤ 1_048_576 }
+    requires { length text.now ≤ 2 ^ 20 }
     ensures accepted { IfOk result (λ events. checked_script text.now ≡ good (map event events.items)) }
     ensures refused { IfErr result (StopsScript text.now) }
 {
@@ -82,13 +86,12 @@ pub fn check_script(alloc: Global, text: &[u8]) -> Result<Vec<NamedEvent>, Check
 }
 
 /// The events of the script that tokens spell.
+#[tactic(auto, using(crate::proofs::Checks::parsing_stops))]
 fn check_tokens(alloc: Global, tokens: &[Token]) -> Result<Vec<NamedEvent>, CheckStop>
-    ensures accepted { IfOk result (λ events. script_if tokens.now (script_in tokens.now) ≡ good (map event events.items)) }
-    ensures refused { IfErr result (Stops (script_if tokens.now (script_in tokens.now))) }
+    requires { length tokens.now ≤ 2 ^ 20 }
+    ensures accepted { IfOk result (λ events. parsed_input (parsed tokens.now) ≡ good (map event events.items)) }
+    ensures refused { IfErr result (Stops (parsed_input (parsed tokens.now))) }
 {
     let tree = parse(alloc, tokens)?;
-    if !is_within_limits(alloc, tokens, &tree)? {
-        return Err(CheckStop::Refused(Refusal::NotScript));
-    }
-    events_in_order(alloc, tree)
+    prepare(alloc, tree)
 }

@@ -7,7 +7,8 @@ ghost use Rattle.pay_tool.specs.Tables.{IsAligned, are_distinct, is_fixing};
 ghost use Rattle.pay_tool.specs.TableReading.{cell_in, columns_if, columns_in, each_in, full_if, pieces, pieces_if, row_in, rows_if, rows_in, scenarios_in};
 ghost use Rattle.pay_tool.specs.TableViews.{row, table};
 
-use crate::scenarios::{Label, LabelFault, ScenarioRow, Scenarios};
+use crate::label::{Label, LabelFault};
+use crate::scenarios::{ScenarioRow, Scenarios};
 use pay_dates::{Day, read_day};
 use pay_fixed::{Fixed, NoMemory, read_decimal};
 use std::alloc::{AllocError, AllocFailed, Global};
@@ -89,10 +90,10 @@ fn mark_at(text: &[u8], mark: u8) -> usize
         .unwrap_or(text.len())
 }
 
-/// The first piece of a text between marks, and the text behind its mark if it has one.
+/// The first piece of a text between marks, and the text after its mark if it has one.
 fn first_piece(text: &[u8], mark: u8) -> (&[u8], Option<&[u8]>)
     ensures pieces { pieces mark text.now ≡ result.0.now ∷ pieces_if mark (option_copied result.1) }
-    ensures shorter { IfSome result.1 (λ behind. length behind.now < length text.now) }
+    ensures shorter { IfSome result.1 (λ after. length after.now < length text.now) }
 {
     let at = mark_at(text, mark);
     if at == text.len() {
@@ -151,10 +152,10 @@ fn read_cells(
         if cells.len() == columns {
             return Err(TableRefusal::NotTable);
         }
-        let (piece, behind) = first_piece(left, b',');
+        let (piece, after) = first_piece(left, b',');
         let cell = read_cell(piece).ok_or(TableRefusal::NotTable)?;
         cells.push(cell)?;
-        rest = behind;
+        rest = after;
     }
     if cells.len() != columns {
         return Err(TableRefusal::NotTable);
@@ -174,10 +175,10 @@ fn read_dates(alloc: Global, text: Option<&[u8]>) -> Result<Vec<Day>, TableRefus
         if dates.len() == MOST_DATES {
             return Err(TableRefusal::NotTable);
         }
-        let (piece, behind) = first_piece(left, b',');
+        let (piece, after) = first_piece(left, b',');
         let date = read_date(piece).ok_or(TableRefusal::NotTable)?;
         dates.push(date)?;
-        rest = behind;
+        rest = after;
     }
     Ok(dates)
 }
@@ -201,11 +202,11 @@ fn read_columns(alloc: Global, line: &[u8]) -> Result<Vec<Day>, TableRefusal>
     ensures read { IfOk result (λ dates. columns_in line.now ≡ Some dates.items) }
     ensures refused { IsErrOf result TableRefusal.NotTable → columns_in line.now ≡ None }
 {
-    let (word, behind) = first_piece(line, b',');
+    let (word, after) = first_piece(line, b',');
     if word != b"scenario".as_slice() {
         return Err(TableRefusal::NotTable);
     }
-    let dates = read_dates(alloc, behind)?;
+    let dates = read_dates(alloc, after)?;
     if !are_distinct(alloc, dates.as_slice())? {
         return Err(TableRefusal::NotTable);
     }
@@ -217,13 +218,13 @@ fn read_row(alloc: Global, line: &[u8], columns: usize) -> Result<ScenarioRow, T
     ensures read { IfOk result (λ r. row_in columns line.now ≡ Some (row r)) }
     ensures refused { IsErrOf result TableRefusal.NotTable → row_in columns line.now ≡ None }
 {
-    let (name, behind) = first_piece(line, b',');
+    let (name, after) = first_piece(line, b',');
     let label = Label::read(alloc, name)?;
-    let cells = read_cells(alloc, behind, columns)?;
+    let cells = read_cells(alloc, after, columns)?;
     Ok(ScenarioRow { label, cells })
 }
 
-/// The rows of a text's lines: at most 100,000, and nothing behind the last line feed.
+/// The rows of a text's lines: at most 100,000, and nothing after the last line feed.
 fn read_rows(
     alloc: Global,
     text: Option<&[u8]>,
@@ -235,8 +236,8 @@ fn read_rows(
     let mut rows = Vec::new(alloc);
     let mut rest = text;
     while let Some(left) = rest {
-        let (line, behind) = first_piece(left, b'\n');
-        if behind.is_none() {
+        let (line, after) = first_piece(left, b'\n');
+        if after.is_none() {
             return if line.is_empty() {
                 Ok(rows)
             } else {
@@ -248,7 +249,7 @@ fn read_rows(
         }
         let row = read_row(alloc, line, columns)?;
         rows.push(row)?;
-        rest = behind;
+        rest = after;
     }
     Err(TableRefusal::NotTable)
 }

@@ -3,18 +3,19 @@
 ghost use Rattle.std.specs.Prelude.{◌≡◌, ◌+◌, ◌≤◌, ◌⊎◌, None, IfSome, IsSomeAnd, map, string_bytes};
 ghost use Rattle.pay_edge.specs.Edge.{OnlyRead, Rose};
 ghost use Rattle.pay_tool.specs.Answers.{answer_of};
-ghost use Rattle.pay_tool.specs.Causes.{Caused, ends_of, ReadFault, Changes, IsGiven, IsRefused, IsAbsentInput, IsReport, IsTextBegun, IsLeft};
+ghost use Rattle.pay_tool.specs.Causes.{Caused, ends_of, ReadFault, SameBeyond, names_fetched, IsEarly};
+ghost use Rattle.pay_tool.specs.Causes.{IsGiven, IsRefused, IsAbsentInput, IsReport, IsTextBegun};
 ghost use Rattle.pay_tool.specs.Fetches.{most_fetches};
 ghost use Rattle.pay_tool.specs.Headline.{PaysAsMeant, IsPayable};
 ghost use Rattle.pay_tool.specs.Requests.{asked_in};
 
-use crate::outcome::{Outcome, status_of};
+use crate::exit::{Exit, status_of};
 use crate::request::{Request, WordsFault, request_of_words};
 use crate::run::run;
 use pay_edge::{Depot, Sink};
 use std::alloc::Global;
 
-/// Does what the words behind a program's name ask for, over the files of a depot: puts a report to `out`, and gives
+/// Does what the words after a program's name ask for, over the files of a depot: puts a report to `out`, and gives
 /// the exit status.
 ///
 /// `run SCRIPT SCENARIOS` fetches and checks the script file (at most 1,048,576 bytes) and then the scenario file (at
@@ -34,8 +35,7 @@ pub fn run_tool<D: Depot, O: Sink, E: Sink>(
     ensures statuses { (result ≡ 0) ⊎ ((2 ≤ result) × (result ≤ 6)) }
 
     // 0: the whole answer was given.
-    ensures given { result ≡ 0 → IfSome (D.files depot.old) (λ files. IsGiven (answer_of (asked_in words.now) files)
-        result (O.text out.old) (O.text out.new) (D.files depot.old) (D.files depot.new)) }
+    ensures given { result ≡ 0 → IfSome (D.files depot.old) (λ files. IsGiven (answer_of (asked_in words.now) files) (O.text out.old) (O.text out.new)) }
 
     // 2: exactly where the words are no request.
     ensures not_request_only { result ≡ 2 → asked_in words.now ≡ None }
@@ -52,18 +52,18 @@ pub fn run_tool<D: Depot, O: Sink, E: Sink>(
     ensures absent { IfSome (D.files depot.old) (λ files. IsAbsentInput (answer_of (asked_in words.now) files) → (result ≡ 4) ⊎ (result ≡ 6)) }
 
     // 5: the answer could not be put.
-    ensures unwritten_only { result ≡ 5 → Rose (O.faults out.old) (O.faults out.new)
-        ⊎ (Changes (asked_in words.now) × Rose (D.write_faults depot.old) (D.write_faults depot.new)) }
+    ensures unwritten_only { result ≡ 5 → Rose (O.faults out.old) (O.faults out.new) }
     ensures unwritten_answer { result ≡ 5 → IfSome (D.files depot.old) (λ files. IsReport (answer_of (asked_in words.now) files)) }
 
-    // What is left at each.
-    ensures untouched { 2 ≤ result → result ≤ 4 → (O.text out.new ≡ O.text out.old) × (D.files depot.new ≡ D.files depot.old) }
+    // What was put: nothing before all inputs are accepted, and then a front of the report.
+    ensures untouched { 2 ≤ result → result ≤ 4 → out.new ≡ out.old }
     ensures begun { 5 ≤ result → IfSome (D.files depot.old) (λ files. IsTextBegun (answer_of (asked_in words.now) files) (O.text out.old) (O.text out.new)) }
-    ensures left { 5 ≤ result → IfSome (D.files depot.old) (λ files. IsLeft (answer_of (asked_in words.now) files)
-        (D.files depot.old) (D.files depot.new) (D.write_faults depot.old) (D.write_faults depot.new)) }
 
-    // No request changes a file, and nothing is put to `err`.
-    ensures files { D.files depot.new ≡ D.files depot.old }
+    // The depot was only read, and no count rose but those of the inputs up to the first that isn't accepted.
+    ensures reads { OnlyRead D.files D.read_faults D.write_faults depot.old depot.new }
+    ensures other_names { SameBeyond (names_fetched (asked_in words.now) (D.files depot.old)) (D.read_faults depot.old) (D.read_faults depot.new) }
+
+    // Nothing was put to `err`.
     ensures err { err.new ≡ err.old }
 
     // No more is fetched than the inputs up to the first that isn't accepted may take.
@@ -72,8 +72,7 @@ pub fn run_tool<D: Depot, O: Sink, E: Sink>(
     // Where nothing stands in the way, the answer is given.
     ensures complete { IsSomeAnd (D.files depot.old) (λ files. IsReport (answer_of (asked_in words.now) files)) →
         ¬ ReadFault (asked_in words.now) (D.files depot.old) (D.read_faults depot.old) (D.read_faults depot.new) →
-        ¬ Rose (O.faults out.old) (O.faults out.new) →
-        ¬ (Changes (asked_in words.now) × Rose (D.write_faults depot.old) (D.write_faults depot.new)) → (result ≡ 0) ⊎ (result ≡ 6) }
+        ¬ Rose (O.faults out.old) (O.faults out.new) → (result ≡ 0) ⊎ (result ≡ 6) }
 
     // The headline: what was written is what the script means in each scenario.
     ensures pays_as_meant { result ≡ 0 → IfSome (D.files depot.old) (λ files. IfSome (O.text out.old) (λ before. IfSome (O.text out.new) (λ after.
@@ -82,25 +81,20 @@ pub fn run_tool<D: Depot, O: Sink, E: Sink>(
     // And where nothing stands in the way, that is so for each script of the grammar and each table.
     ensures pays_each_script { IsSomeAnd (D.files depot.old) (λ files. IsPayable (map string_bytes words.now.items) files) →
         ¬ ReadFault (asked_in words.now) (D.files depot.old) (D.read_faults depot.old) (D.read_faults depot.new) →
-        ¬ Rose (O.faults out.old) (O.faults out.new) →
-        ¬ (Changes (asked_in words.now) × Rose (D.write_faults depot.old) (D.write_faults depot.new)) → (result ≡ 0) ⊎ (result ≡ 6) }
+        ¬ Rose (O.faults out.old) (O.faults out.new) → (result ≡ 0) ⊎ (result ≡ 6) }
 {
     let _ = err;
-    let outcome = serve(alloc, words, depot, out);
-    status_of(outcome)
+    let exit = serve(alloc, words, depot, out);
+    status_of(exit)
 }
 
 /// Does what the words ask for.
-fn serve<D: Depot, O: Sink>(
-    alloc: Global,
-    words: &Vec<String>,
-    depot: &mut D,
-    out: &mut O,
-) -> Outcome
+fn serve<D: Depot, O: Sink>(alloc: Global, words: &Vec<String>, depot: &mut D, out: &mut O) -> Exit
     ensures reads { OnlyRead D.files D.read_faults D.write_faults depot.old depot.new }
+    ensures other_names { SameBeyond (names_fetched (asked_in words.now) (D.files depot.old)) (D.read_faults depot.old) (D.read_faults depot.new) }
     ensures fetches { D.fetches depot.new ≤ D.fetches depot.old + most_fetches (asked_in words.now) (D.files depot.old) }
-    ensures caused { Caused (asked_in words.now)
-        (ends_of D.files D.read_faults D.write_faults O.text O.faults depot.old depot.new out.old out.new) result }
+    ensures untouched { IsEarly result → out.new ≡ out.old }
+    ensures caused { Caused (asked_in words.now) (ends_of D.files D.read_faults O.text O.faults depot.old depot.new out.old out.new) result }
 {
     match request_of_words(alloc, words) {
         Ok(Request::Run(names)) => run(
@@ -110,7 +104,7 @@ fn serve<D: Depot, O: Sink>(
             depot,
             out,
         ),
-        Err(WordsFault::NotRequest) => Outcome::NotRequest,
-        Err(WordsFault::NoMemory) => Outcome::NoMemory,
+        Err(WordsFault::NotRequest) => Exit::NotRequest,
+        Err(WordsFault::NoMemory) => Exit::NoMemory,
     }
 }

@@ -2,7 +2,7 @@
 
 ghost use Rattle.std.specs.Prelude.{◌≡◌, OnOk, pos};
 ghost use Rattle.std.specs.FinMap.{insert};
-ghost use Rattle.pay_meaning.specs.Meaning.{no_variables, value_of};
+ghost use Rattle.pay_meaning.specs.Meaning.{no_variables, lookup};
 
 use pay_fixed::{Fixed, NoMemory};
 use pay_tree::Name;
@@ -10,10 +10,10 @@ use std::alloc::Global;
 use std::collections::BTreeMap;
 use std::marker::Model;
 
-/// The variables that were assigned, each with its number.
+/// The variables that were assigned, each with its value.
 #[derive(Drop)]
 pub struct Variables<'a> {
-    numbers: BTreeMap<&'a Name, Fixed>,
+    values: BTreeMap<&'a Name, Fixed>,
 }
 
 impl<'a> Model for Variables<'a> {
@@ -26,7 +26,7 @@ impl<'a> Model for Variables<'a> {
 
     ghost coded = { code (coded_list coded_ℕ) coded_ℤ };
 
-    ghost view = { λ variables. variables_of variables.numbers.entries };
+    ghost view = { λ variables. variables_of variables.values.entries };
 }
 
 /// The number 0.
@@ -42,29 +42,29 @@ impl<'a> Variables<'a> {
         ensures { result ≡ no_variables }
     {
         Variables {
-            numbers: BTreeMap::new(alloc),
+            values: BTreeMap::new(alloc),
         }
     }
 
-    /// The number of a variable; 0 where it was never assigned.
-    pub fn value(&self, name: &'a Name) -> Fixed
-        ensures { result ≡ value_of self.now name.now }
+    /// The value of a variable; 0 where it was never assigned.
+    pub fn lookup(&self, name: &'a Name) -> Fixed
+        ensures { result ≡ lookup self.now name.now }
     {
-        match self.numbers.get(&name) {
-            Some(number) => *number,
+        match self.values.get(&name) {
+            Some(value) => *value,
             None => zero(),
         }
     }
 
-    /// Gives a variable this number.
+    /// Gives a variable this value.
     ///
     /// # Errors
     ///
     /// [`NoMemory`] where there was no memory for the variable.
-    pub fn assign(&mut self, name: &'a Name, number: Fixed) -> Result<(), NoMemory>
-        ensures { OnOk result (self.new ≡ insert self.old name.now number) }
+    pub fn assign(&mut self, name: &'a Name, value: Fixed) -> Result<(), NoMemory>
+        ensures { OnOk result (self.new ≡ insert self.old name.now value) }
     {
-        match self.numbers.insert(name, number) {
+        match self.values.insert(name, value) {
             Ok(_) => Ok(()),
             Err(_) => Err(NoMemory),
         }

@@ -1,15 +1,16 @@
-//! The run of the statements of an event: its variables and payments, or its fault.
+//! The statements of an event in one scenario: their effect on variables and payments, or their fault.
 
 ghost use Rattle.std.specs.Prelude.{◌≡◌, ◌∷◌, [], ◌++◌, IfErr, IfOk, IsErrOf, IsOk, OnOk, map};
-ghost use Rattle.pay_meaning.specs.Meaning.{calculated, value, effect, effect_of, after_payments};
-ghost use Rattle.pay_tree.specs.Views.{number, operator, statement, body};
+ghost use Rattle.pay_meaning.specs.Meaning as meant;
+ghost use Rattle.pay_meaning.specs.Meaning.{effect, effect_of, after_payments};
+ghost use Rattle.pay_tree.specs.Views as view;
 ghost use Rattle.pay_tool.specs.RunViews.{Extends, leaves, moment, payment, StopsAs};
 
 use crate::variables::Variables;
 use pay_dates::Day;
 use pay_fixed::{Arith, Fixed, NoMemory};
 use pay_meaning::FaultKind;
-use pay_tree::{Binary, Expr, Name, Stmt};
+use pay_tree::{Binary, Expr, Name, Stmt, Unary};
 
 /// What the statements of an event can read of it.
 #[derive(Drop)]
@@ -68,7 +69,7 @@ impl From<NoMemory> for Stop {
     }
 }
 
-/// The answer of a sum or a difference, with the fault that its error is.
+/// The answer of a calculation, with the fault that its error is.
 fn limited(answer: Result<Fixed, Arith>) -> Result<Fixed, FaultKind>
     ensures ok { IfOk answer (λ number. result ≡ Ok number) }
     ensures overflow { IsErrOf answer Arith.Overflow → result ≡ Err FaultKind.Overflow }
@@ -81,36 +82,48 @@ fn limited(answer: Result<Fixed, Arith>) -> Result<Fixed, FaultKind>
     }
 }
 
-/// The number of two numbers under an operator; `Overflow` where it is beyond the limit.
+/// The number of two numbers under an operator: `ZeroDivisor` for a quotient by zero, else `Overflow` where it is beyond
+/// the limit.
 fn calculated(op: Binary, left: Fixed, right: Fixed) -> Result<Fixed, FaultKind>
-    ensures { result ≡ calculated (operator op) left right }
+    ensures { result ≡ meant.calculated (view.operator op) left right }
 {
     match op {
         Binary::Add => limited(left.add(right)),
         Binary::Sub => limited(left.sub(right)),
+        Binary::Mul => limited(left.mul(right)),
+        Binary::Div => limited(left.div(right)),
+        Binary::Min => Ok(left.min(right)),
+        Binary::Max => Ok(left.max(right)),
     }
+}
+
+/// A count as a number.
+fn whole(count: u32) -> Fixed
+    ensures { result ≡ meant.whole count }
+{
+    Fixed::from_raw(i64::from(count) * 10_000).unwrap()
 }
 
 /// The value of an expression.
 ///
 /// # Errors
 ///
-/// The first fault from left to right: `MissingFixing` where the fixing is read and there is none, `Overflow` where a
-/// sum or a difference is beyond the limit.
-pub fn value_of<'a>(
-    expr: &'a Expr,
-    variables: &Variables<'a>,
-    at: &Moment,
-) -> Result<Fixed, FaultKind>
-    ensures { result ≡ value (number expr.now) variables.now (moment at.now) }
+/// The first fault from left to right: `MissingFixing` where the fixing is read and there is none, `ZeroDivisor` where a
+/// divisor is zero, `Overflow` where a result is beyond the limit.
+pub fn value<'a>(expr: &'a Expr, variables: &Variables<'a>, at: &Moment) -> Result<Fixed, FaultKind>
+    ensures { result ≡ meant.value (view.number expr.now) variables.now (moment at.now) }
 {
     match expr {
         Expr::Number(number) => Ok(*number),
-        Expr::Name(name) => Ok(variables.value(name)),
+        Expr::Name(name) => Ok(variables.lookup(name)),
         Expr::Spot => at.fixing.ok_or(FaultKind::MissingFixing),
+        Expr::Period => Ok(whole(at.period)),
+        Expr::Days => Ok(whole(at.days)),
+        Expr::Unary(Unary::Neg, side) => Ok(value(side, variables, at)?.neg()),
+        Expr::Unary(Unary::Abs, side) => Ok(value(side, variables, at)?.abs()),
         Expr::Binary(op, left, right) => {
-            let first = value_of(left, variables, at)?;
-            let second = value_of(right, variables, at)?;
+            let first = value(left, variables, at)?;
+            let second = value(right, variables, at)?;
             calculated(*op, first, second)
         }
     }
@@ -124,7 +137,7 @@ fn add_payment<'a>(
     amount: Fixed,
 ) -> Result<(), NoMemory>
     ensures ok { OnOk result (map payment payments.new.items ≡ map payment payments.old.items ++ record { date = date; leg = leg.now; amount = amount } ∷ []) }
-    ensures kept { Extends payments.old.items payments.new.items }
+    ensures extends { Extends payments.old.items payments.new.items }
 {
     match payments.push(Payment { date, leg, amount }) {
         Ok(()) => Ok(()),
@@ -132,25 +145,29 @@ fn add_payment<'a>(
     }
 }
 
-/// Runs a statement: it gives a variable its number, or appends a payment.
+/// Runs a statement: it gives a variable its value, or appends a payment.
 fn run_statement<'a>(
-    act: &'a Stmt,
+    statement: &'a Stmt,
     variables: &mut Variables<'a>,
     at: &Moment,
     payments: &mut Vec<Payment<'a>>,
 ) -> Result<(), Stop>
-    ensures ok { OnOk result (after_payments (map payment payments.old.items) (effect_of (statement act.now) variables.old (moment at.now)) ≡ leaves variables.new payments.new.items) }
-    ensures fault { IfErr result (StopsAs (effect_of (statement act.now) variables.old (moment at.now))) }
-    ensures memory { IsErrOf result Stop.NoMemory → IsOk (effect_of (statement act.now) variables.old (moment at.now)) }
-    ensures kept { Extends payments.old.items payments.new.items }
+    ensures ok { OnOk result (after_payments (map payment payments.old.items) (effect_of (view.statement statement.now) variables.old (moment at.now))
+        ≡ leaves variables.new payments.new.items) }
+    ensures fault { IfErr result (StopsAs (effect_of (view.statement statement.now) variables.old (moment at.now))) }
+    ensures memory { IsErrOf result Stop.NoMemory → IsOk (effect_of (view.statement statement.now) variables.old (moment at.now)) }
+    ensures extends { Extends payments.old.items payments.new.items }
 {
-    match act {
-        Stmt::Assign { name, value } => {
-            let number = value_of(value, variables, at)?;
-            variables.assign(name, number)?;
+    match statement {
+        Stmt::Assign {
+            name,
+            value: number,
+        } => {
+            let value = value(number, variables, at)?;
+            variables.assign(name, value)?;
         }
         Stmt::Pay { leg, amount } => {
-            let amount = value_of(amount, variables, at)?;
+            let amount = value(amount, variables, at)?;
             add_payment(payments, at.date, leg, amount)?;
         }
     }
@@ -162,19 +179,20 @@ fn run_statement<'a>(
 /// # Errors
 ///
 /// `Fault` with the fault of the first statement that has one, `NoMemory` where there was no memory for a variable or a
-/// payment. Then `payments` has what it had, and perhaps some payments behind it.
+/// payment. Then `payments` has what it had, and perhaps some payments after it.
 pub fn run_statements<'a>(
     statements: &'a [Stmt],
     variables: &mut Variables<'a>,
     at: &Moment,
     payments: &mut Vec<Payment<'a>>,
 ) -> Result<(), Stop>
-    ensures ok { OnOk result (after_payments (map payment payments.old.items) (effect (body statements.now) variables.old (moment at.now)) ≡ leaves variables.new payments.new.items) }
-    ensures fault { IfErr result (StopsAs (effect (body statements.now) variables.old (moment at.now))) }
-    ensures kept { Extends payments.old.items payments.new.items }
+    ensures ok { OnOk result (after_payments (map payment payments.old.items) (effect (view.body statements.now) variables.old (moment at.now))
+        ≡ leaves variables.new payments.new.items) }
+    ensures fault { IfErr result (StopsAs (effect (view.body statements.now) variables.old (moment at.now))) }
+    ensures extends { Extends payments.old.items payments.new.items }
 {
-    for act in statements {
-        run_statement(act, variables, at, payments)?;
+    for statement in statements {
+        run_statement(statement, variables, at, payments)?;
     }
     Ok(())
 }

@@ -1,7 +1,10 @@
 //! Runs of the whole tool over files and sinks in memory. Expected reports are worked by hand.
 
-use pay_edge::{MemoryDepot, MemorySink, NoMemory};
-use pay_tool::{Request, WordsFault, request_of_words, run_tool};
+use pay_dates::Day;
+use pay_edge::{Depot, FetchFault, MemoryDepot, MemorySink, NoMemory};
+use pay_tool::{
+    CheckStop, Refusal, Request, What, WordsFault, check_script, request_of_words, run_tool,
+};
 use std::alloc::{AllocError, Global};
 use std::process::Abort;
 use std::test::Fail;
@@ -17,13 +20,19 @@ const REPORT: &str =
 const ROOM: u32 = 10_000;
 
 // A script, a table, and the report of the script over the table.
-const REPORTS: [(&str, &str, &str); 8] = [
+const REPORTS: [(&str, &str, &str); 17] = [
     (SCRIPT, TABLE, REPORT),
-    // Several payments, an empty cell, and a value that is rounded away from zero.
+    // Several payments, and a value that is rounded away from zero.
     (
         "@2024-06-28 opt pays spot() fee pays 2.5;",
-        "scenario,2024-06-28\nup,112.5\ngone,\nlow,-0.00005\n",
-        "scenario,date,leg,amount\nup,2024-06-28,opt,112.5\nup,2024-06-28,fee,2.5\ngone,2024-06-28,!missing fixing,\nlow,2024-06-28,opt,-0.0001\nlow,2024-06-28,fee,2.5\n#nodes,,,\n",
+        "scenario,2024-06-28\nup,112.5\nlow,-0.00005\n",
+        "scenario,date,leg,amount\nup,2024-06-28,opt,112.5\nup,2024-06-28,fee,2.5\nlow,2024-06-28,opt,-0.0001\nlow,2024-06-28,fee,2.5\n#nodes,,,\n",
+    ),
+    // An empty cell, and a scenario after it.
+    (
+        "@2024-06-28 opt pays spot() fee pays 2.5;",
+        "scenario,2024-06-28\ngone,\nup,1\n",
+        "scenario,date,leg,amount\ngone,2024-06-28,!missing fixing,\nup,2024-06-28,opt,1\nup,2024-06-28,fee,2.5\n#nodes,,,\n",
     ),
     // An event that faults pays nothing, and the payments of the event before it stand.
     (
@@ -50,9 +59,54 @@ const REPORTS: [(&str, &str, &str); 8] = [
         "scenario,date,leg,amount\ns,2024-06-28,a,100000000000000\n#nodes,,,\n",
     ),
     (
-        "@2024-06-28 a pays 100000000000000 + 0.0001 - spot()",
+        "@2024-06-28 a pays 100000000000000 + 0.0001",
         "scenario\ns\n",
         "scenario,date,leg,amount\ns,2024-06-28,!overflow,\n#nodes,,,\n",
+    ),
+    // A call, and a product in place of a refusal.
+    (
+        "@2024-06-28 opt pays max(0, spot() - 100)",
+        "scenario,2024-06-28\nup,112.5\ndown,90\n",
+        "scenario,date,leg,amount\nup,2024-06-28,opt,12.5\ndown,2024-06-28,opt,0\n#nodes,,,\n",
+    ),
+    (
+        "@2024-01-10 a pays 2 * 3",
+        "scenario\ns\n",
+        "scenario,date,leg,amount\ns,2024-01-10,a,6\n#nodes,,,\n",
+    ),
+    // Products and quotients are rounded to four places, a half away from zero.
+    (
+        "@2024-06-28 a pays 0.0001 * 0.5 b pays -0.0001 * 0.5",
+        "scenario\ns\n",
+        "scenario,date,leg,amount\ns,2024-06-28,a,0.0001\ns,2024-06-28,b,-0.0001\n#nodes,,,\n",
+    ),
+    (
+        "@2024-06-28 a pays 1/3 a pays 2/3 a pays -2/3",
+        "scenario\ns\n",
+        "scenario,date,leg,amount\ns,2024-06-28,a,0.3333\ns,2024-06-28,a,0.6667\ns,2024-06-28,a,-0.6667\n#nodes,,,\n",
+    ),
+    // The first fault from the left: a missing fixing before a zero divisor, and a zero divisor before an overflow.
+    (
+        "@2024-01-10 a pays 1 @2024-02-12 a pays 2 x = spot() a pays 1/0",
+        "scenario,2024-01-10\ns,100\n",
+        "scenario,date,leg,amount\ns,2024-01-10,a,1\ns,2024-02-12,!missing fixing,\n#nodes,,,\n",
+    ),
+    (
+        "@2024-06-28 a pays 100000000000000 / 0 * 10",
+        "scenario\ns\n",
+        "scenario,date,leg,amount\ns,2024-06-28,!zero divisor,\n#nodes,,,\n",
+    ),
+    // A minus sign binds closer than a product, a product closer than a sum, and brackets group.
+    (
+        "@2024-06-28 a pays -(1+2)*4 - 3; a pays 12/3/2; a pays min(3, 1, 2) + abs(-4); a pays - -1",
+        "scenario\ns\n",
+        "scenario,date,leg,amount\ns,2024-06-28,a,-15\ns,2024-06-28,a,2\ns,2024-06-28,a,5\ns,2024-06-28,a,1\n#nodes,,,\n",
+    ),
+    // A byte order mark, comments, and words in either case; in a plain item the period and the days are 0.
+    (
+        "\u{feff}// for Zürich\n@2024-06-28 A PAYS Period() // 1\n + days() //",
+        "scenario\ns\n",
+        "scenario,date,leg,amount\ns,2024-06-28,a,0\n#nodes,,,\n",
     ),
     // Nothing to run.
     ("", "scenario\n", "scenario,date,leg,amount\n#nodes,,,\n"),
@@ -62,11 +116,127 @@ const REPORTS: [(&str, &str, &str); 8] = [
 // keyword as a leg, an empty table, and a last line without its end.
 const REFUSED: [(&str, &str); 6] = [
     ("@2024-01-10 a pays 1 @2024-01-10 a pays 2", TABLE),
-    ("@2024-01-10 a pays 2 * 3", TABLE),
+    ("@2024-01-10 a pays 2 *", TABLE),
     ("@2024-06-28 a pays 100000000000000.0001", TABLE),
     ("@2024-06-28 spot pays 1", TABLE),
     (SCRIPT, ""),
     (SCRIPT, "scenario,2024-06-28\nup,112.5"),
+];
+
+// A script's text, and why it is refused.
+const REFUSALS: [(&str, Refusal); 12] = [
+    ("@2024-02-30", Refusal::BadByte { at: 0 }),
+    ("@2024-06-28 a pays 1 ! 2", Refusal::BadByte { at: 21 }),
+    ("@2024-06-28 a pays 1. ", Refusal::BadByte { at: 20 }),
+    ("@2024-06-28 \u{feff}", Refusal::BadByte { at: 12 }),
+    (
+        "@2024-06-28 a pays 100000000000000.0001",
+        Refusal::TooLarge { at: 19 },
+    ),
+    // The limits of tokens are asked before the grammar.
+    (
+        "@2024-06-28 1 100000000000000.0001",
+        Refusal::TooLarge { at: 14 },
+    ),
+    ("@2024-06-28 a pays 1 < 2", Refusal::NotScript),
+    ("@2024-06-28 a pays", Refusal::NotScript),
+    ("@2024-06-28 a pays (1", Refusal::NotScript),
+    ("@2024-06-28 a pays min(1)", Refusal::NotScript),
+    ("@2024-06-28 if 1 = 1 then endif", Refusal::NotScript),
+    ("schedule from", Refusal::NotScript),
+];
+
+// A script of a piece that is repeated between a front and a back, how often, and why it is refused. The names in the
+// pieces differ where they have a `#`, which stands for a number.
+const REPEATED: [(&str, &str, &str, usize, Refusal); 11] = [
+    (
+        "@2024-06-28 a pays ",
+        "(",
+        "",
+        101,
+        Refusal::TooDeep { at: 119 },
+    ),
+    (
+        "@2024-06-28 a pays 1",
+        "+1",
+        "",
+        97,
+        Refusal::TooDeep { at: 212 },
+    ),
+    (
+        "@2024-06-28 a pays ",
+        "-",
+        "1",
+        97,
+        Refusal::TooDeep { at: 115 },
+    ),
+    // A size is asked before a depth, wherever it stands, and a depth before the grammar.
+    (
+        "@2024-06-28 a pays ",
+        "(",
+        "100000000000000.0001",
+        101,
+        Refusal::TooLarge { at: 120 },
+    ),
+    ("@2024-06-28 a pays ", ")", "", 101, Refusal::NotScript),
+    (
+        "@2024-06-28 ",
+        "n",
+        " = 1",
+        65,
+        Refusal::TooLarge { at: 12 },
+    ),
+    // Too many events are asked before a shared date.
+    (
+        "",
+        "@2024-06-28 ",
+        "",
+        4_097,
+        Refusal::TooMany {
+            what: What::Events,
+            limit: 4_096,
+        },
+    ),
+    (
+        "@2024-06-28 ",
+        "x = 1 ",
+        "",
+        131_073,
+        Refusal::TooMany {
+            what: What::Nodes,
+            limit: 262_144,
+        },
+    ),
+    (
+        "@2024-06-28 ",
+        "a pays 1 ",
+        "",
+        16_385,
+        Refusal::TooMany {
+            what: What::Pays,
+            limit: 16_384,
+        },
+    ),
+    (
+        "@2024-06-28 ",
+        "v# = 1 ",
+        "",
+        1_025,
+        Refusal::TooMany {
+            what: What::Variables,
+            limit: 1_024,
+        },
+    ),
+    (
+        "@2024-06-28 ",
+        "leg# pays 1 ",
+        "",
+        257,
+        Refusal::TooMany {
+            what: What::Legs,
+            limit: 256,
+        },
+    ),
 ];
 
 // Words, and the status that they end with where the depot has a script `s.pay` and a table `t.csv`.
@@ -157,6 +327,53 @@ fn a_refused_input_puts_nothing(rt: HostRuntime) -> Result<(), Fail> {
     Ok(())
 }
 
+// Why a script's text is refused.
+fn refusal_of(alloc: Global, text: &[u8]) -> Result<Refusal, Fail> {
+    match check_script(alloc, text) {
+        Err(CheckStop::Refused(refusal)) => Ok(refusal),
+        Err(CheckStop::NoMemory) => Err(Fail::new("no memory for a script that is refused")),
+        Ok(_) => Err(Fail::new("a script that is refused was accepted")),
+    }
+}
+
+#[test]
+fn a_script_is_refused_for_its_first_fault(rt: HostRuntime) -> Result<(), Fail> {
+    let alloc = rt.alloc();
+    for (script, refusal) in REFUSALS {
+        assert_eq!(rt; refusal_of(alloc, script.as_bytes())?, refusal);
+    }
+    for (front, piece, back, count, refusal) in REPEATED {
+        let mut script = String::from_str(alloc, front)?;
+        for number in 0..count {
+            script.push_str(&piece.replace(alloc, "#", &number.to_string(alloc)?)?)?;
+        }
+        script.push_str(back)?;
+        assert_eq!(rt; refusal_of(alloc, script.as_bytes())?, refusal);
+    }
+    Ok(())
+}
+
+// The earliest date that is shared is named, in whatever order the items stand.
+#[test]
+fn a_shared_date_is_named(rt: HostRuntime) -> Result<(), Fail> {
+    let alloc = rt.alloc();
+    let text = b"@2024-03-01 @2024-01-10 a pays 1 @2024-02-12 @2024-01-10 @2024-03-01";
+    let date = Day::new(2024, 1, 10).unwrap();
+    assert_eq!(rt; refusal_of(alloc, text)?, Refusal::SameDate { date });
+    // It is asked before the legs.
+    let mut script = String::from_str(alloc, "@2024-01-10 @2024-01-10 ")?;
+    for number in 0..257_u32 {
+        script.push_str("leg")?;
+        script.push_str(&number.to_string(alloc)?)?;
+        script.push_str(" pays 1 ")?;
+    }
+    assert_eq!(rt;
+        refusal_of(alloc, script.as_bytes())?,
+        Refusal::SameDate { date }
+    );
+    Ok(())
+}
+
 #[test]
 fn words_give_a_request(rt: HostRuntime) -> Result<(), Fail> {
     let alloc = rt.alloc();
@@ -198,14 +415,17 @@ fn a_failing_fetch_puts_nothing(rt: HostRuntime) -> Result<(), Fail> {
     Ok(())
 }
 
-// The third fetch would be the first of the table: it isn't made behind a script that is refused.
+// A script that is refused takes two fetches, and the table none: the third fetch, which is to fail, is still to come.
 #[test]
 fn a_refused_script_ends_the_fetches(rt: HostRuntime) -> Result<(), Fail> {
     let alloc = rt.alloc();
     let mut depot = depot_with(alloc, b"no script", TABLE.as_bytes())?;
     depot.fail_fetch(3)?;
     let mut out = MemorySink::new(alloc, ROOM)?;
-    ends(&rt, alloc, &mut depot, &mut out, 3, "")
+    ends(&rt, alloc, &mut depot, &mut out, 3, "")?;
+    let mut buffer = [0u8; 1];
+    assert!(rt; depot.fetch("t.csv", 0, &mut buffer) == Err(FetchFault::Failed));
+    Ok(())
 }
 
 #[test]

@@ -1,5 +1,5 @@
-use Rattle.pay_tool.proofs.Refusals as proof
+use Rattle.pay_tool.proofs.Checks as proof
 use Rattle.pay_tool.proofs.laws.table_refusal_has_cause.Goals as goal
 
 pub returns : goal.returns
-returns c = proof.table_refusal_has_cause
+returns c = proof.table_refusal

@@ -10,7 +10,7 @@ use Rattle.pay_tool.proofs.put.put_rows.Given as goal
 abbrev pub invariant-loop-scenario : goal.invariant-loop-scenario
 invariant-loop-scenario g l = record {
   put : HasPut (g.O.Sink.text l.fn.out) (g.O.Sink.text l.out)
-      (flat_map (row_lines (map event l.events) l.dates) (map row (drop l.scenario-index l.rows)))
-      (flat_map (row_lines (map event l.events) l.dates) (map row l.rows));
+      (flat_map (row_lines (map event l.events.events.now) l.events.dates.now) (map row (drop l.scenario-index l.rows)))
+      (flat_map (row_lines (map event l.events.events.now) l.events.dates.now) (map row l.rows));
   never_falls : g.O.Sink.faults l.fn.out ≤ g.O.Sink.faults l.out;
 }

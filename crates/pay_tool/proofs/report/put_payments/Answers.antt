@@ -1,7 +1,7 @@
 use Rattle.std.proofs.Common.{◌≡◌, ℕ, List, ◌++◌, Result, Ok, Err, OnErr, ap, ◌∙◌, append_assoc}
 use Rattle.pay_tool.proofs.report.put_payments.Goals as goal
 
--- a front, with more behind it twice
+-- a front, with more after it twice
 more-twice : (first second third : List ℕ) → (more : List ℕ) × (second ≡ first ++ more) → (more : List ℕ) × (third ≡ second ++ more) → (more : List ℕ) × (third ≡ first ++ more)
 more-twice first second third (a, is) (b, is') = (a ++ b, is' ∙ ap (λ (xs : List ℕ). xs ++ b) is ∙ append_assoc first a b)
 

@@ -9,7 +9,7 @@ pub returns-clause-complete : goal.returns-clause-complete
 returns-clause-complete g c = search rules
 
 pub returns-clause-pays_as_meant : goal.returns-clause-pays_as_meant
-returns-clause-pays_as_meant g c = λ zero. paid (map string_bytes c.args.words.now.items) _ _ _ _ (done_given _ _ _ (sym c.status_of.ensures ∙ zero) c.serve-outcome.ensures.caused)
+returns-clause-pays_as_meant g c = λ zero. paid (map string_bytes c.args.words.now.items) _ _ _ (done_given _ _ _ (sym c.status_of.ensures ∙ zero) c.serve-exit.ensures.caused)
 
 pub returns-clause-pays_each_script : goal.returns-clause-pays_each_script
 returns-clause-pays_each_script g c = λ payable. returns-clause-complete g c (payable_reports (map string_bytes c.args.words.now.items) _ payable)

@@ -4,10 +4,10 @@ use Rattle.pay_tree.specs.Views.{body}
 use Rattle.pay_tool.specs.RunViews.{Extends, moment, payment}
 use Rattle.pay_tool.proofs.walker.run_statements.Given as goal
 
--- the payments so far and what is left to pay are the effect of all statements, and what was paid before stays in front
-abbrev pub invariant-loop-act : goal.invariant-loop-act
-invariant-loop-act l = record {
+-- the payments so far and what is left to pay are the effect of all statements, and what was paid before stands before it
+abbrev pub invariant-loop-statement : goal.invariant-loop-statement
+invariant-loop-statement l = record {
   rest : after_payments (map payment l.initial.payments.items) (effect (body l.statements) l.initial.variables (moment l.at))
-      ≡ after_payments (map payment l.payments.items) (effect (body (drop l.act-index l.statements)) l.variables (moment l.at));
-  kept : Extends l.initial.payments.items l.payments.items;
+      ≡ after_payments (map payment l.payments.items) (effect (body (drop l.statement-index l.statements)) l.variables (moment l.at));
+  extends : Extends l.initial.payments.items l.payments.items;
 }

@@ -5,6 +5,6 @@ use Rattle.pay_tool.proofs.variables.Variables.assign.Goals.{in-Ok, in-Err}
 
 pub returns : goal.returns
 returns c = elim c.match-insert.branch [
-  | in-Ok w ↦ rw (w.result-is, ← c.self.view_is) (variables-assigned c.self.inside.numbers c.insert.new.self c.args.name c.args.number w.in-Ok.ensures.updates)
+  | in-Ok w ↦ rw (w.result-is, ← c.self.view_is) (variables-assigned c.self.inside.values c.insert.new.self c.args.name c.args.value w.in-Ok.ensures.updates)
   | in-Err w ↦ rw w.result-is (search rules)
 ]

@@ -1,7 +1,0 @@
-use Rattle.std.proofs.Common.{◌≡◌, ◌∷◌, map, take}
-use Rattle.pay_tool.specs.Tokens.{lower}
-use Rattle.pay_tool.proofs.lexer.lowered.Given as goal
-
--- the letters so far
-abbrev pub invariant-loop-byte : goal.invariant-loop-byte
-invariant-loop-byte l = l.letters.items ≡ map lower (l.first ∷ take l.byte-index l.more)

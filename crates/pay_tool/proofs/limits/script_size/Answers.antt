@@ -1,9 +1,0 @@
-use Rattle.std.proofs.Common.{◌≡◌, [], drop, arith}
-use Rattle.std.proofs.Math.ListN.{drop_of_length-le}
-use Rattle.pay_tool.proofs.limits.script_size.Goals as goal
-
-pub returns : goal.returns
-returns c =
-    let all : drop c.loop-one.one-index c.args.items.now ≡ [] = drop_of_length-le c.args.items.now c.loop-one-test.false in
-    let e = rw all at c.loop-one.invariant.same in
-    omega (arith, e, c.loop-one.invariant.small)
