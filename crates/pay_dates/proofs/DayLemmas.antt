@@ -1,21 +1,25 @@
 -- Lemmas on the texts and numbers of days, for the crates above too.
-use Rattle.std.proofs.Common.{◌≡◌, ℕ, ◌+◌, ◌-◌, ◌*◌, ◌/◌, ◌%◌, ◌<◌, ◌≤◌, ℤ, pos, negsuc, neg_ℤ, ◌+ℤ◌, ◌≤ℤ◌, Bool, true, false, List, [], ◌∷◌, length, slice_index, Option, Some, None, refl, sym, ap, ◌∙◌, arith, ◌&&◌, drop, ◌⊎◌, inl, inr, eqb-true}
+use Rattle.std.proofs.Common.{◌≡◌, ℕ, ◌+◌, ◌-◌, ◌*◌, ◌/◌, ◌%◌, ◌<◌, ◌≤◌, ℤ, pos, negsuc, neg_ℤ, ◌+ℤ◌, ◌≤ℤ◌, Bool, true, false, List, [], ◌∷◌}
+use Rattle.std.proofs.Common.{length, slice_index, Option, Some, None, refl, sym, ap, ◌∙◌, arith, ◌&&◌, drop, ◌⊎◌, inl, inr, eqb-true}
 use Rattle.std.specs.Prelude.{IsSome, IfSome, ◌↔◌}
 use Rattle.std.proofs.lemmas.Bool.{cases_Bool, false≢true, and_parts}
 use Rattle.std.proofs.lemmas.Option.{same_Some}
 use Rattle.std.proofs.lemmas.Bool.Decides.{nat_tests}
 use Rattle.jiff_core.proofs.SignedLemmas.{signed_arith}
 use Rattle.jiff_core.specs.Calendar.{IsCivilDate, day_count, days_from_civil}
-use Rattle.jiff_core.proofs.CalendarLemmas.{days_in_month_bounds, day_count-epoch, days_from_civil-day_count, day_count-lt_year, day_count-later_year, day_count-day_of_year}
+use Rattle.jiff_core.proofs.CalendarLemmas.{days_in_month_bounds, day_count-epoch, days_from_civil-day_count, day_count-lt_year}
+use Rattle.jiff_core.proofs.CalendarLemmas.{day_count-later_year, day_count-day_of_year}
 use Rattle.jiff_core.proofs.MarchLemmas.{day_count-early}
 use Rattle.std.proofs.lemmas.Int.{by_lt_z}
 use Rattle.jiff.proofs.Family.{same_date, epoch_day_same, epoch_day-lt, days_from_civil-day, days_from_civil-next_month, days_from_civil-next_year}
-use Rattle.pay_dates.specs.Days.{Date, IsDay, IsNumberOfRange, day_text, day_number, day_in, day_of, day_if, is_day_of, IsDayOf, has_form, two_at, year_at, IsYearOfRange}
+use Rattle.pay_dates.specs.Days.{Date, IsDay, IsNumberOfRange, day_text, day_number, day_in, day_of, day_if, is_day_of, IsDayOf, has_form, two_at}
+use Rattle.pay_dates.specs.Days.{year_at, IsYearOfRange}
 use Rattle.std.specs.List.{All, AllByRecursion as ByRecursion}
 use Rattle.std.proofs.lemmas.List.Elements.{All-same, All-from_recursion}
 use Rattle.pay_dates.specs.Parts.{is_digit, in_range}
 use Rattle.std.proofs.Math.Seq.{drop-cons, drop-length}
-use Rattle.pay_dates.specs.Laws.{TextHasTenBytes, TextReadsBack, ReadingIsText, NumberNamesDay, EarlierIsSmaller, EpochIsZero, IsNextOfMonth, BeginsNextMonth, BeginsNextYear, NextIsOneMore}
+use Rattle.pay_dates.specs.Laws.{TextHasTenBytes, TextReadsBack, ReadingIsText, NumberNamesDay, EarlierIsSmaller, EpochIsZero, IsNextOfMonth}
+use Rattle.pay_dates.specs.Laws.{BeginsNextMonth, BeginsNextYear, NextIsOneMore}
 use Rattle.pay_dates.proofs.PartsLemmas.{is_day_of-true, IsDayOf-test, is_day_of-parts, year_low, year_high}
 
 -- dates with one number are one date

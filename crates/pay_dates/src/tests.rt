@@ -1,7 +1,8 @@
 //! Tests of the calls on days.
 //!
 //! The numbers follow from the calendar by counting from 1970-01-01. 1900-01-01 lies 70 years of 365 days and 17 leap
-//! days before it; 2000-02-29 lies 30 years, 7 leap days and 59 days after it; 2024-02-29 lies 54 years, 13 leap days and 59 days after it, 2024-06-28 another 120 days; and
+//! days before it; 2000-02-29 lies 30 years, 7 leap days and 59 days after it; 2024-02-29 lies 54 years, 13 leap days and 59 days after it,
+//! 2024-06-28 another 120 days; and
 //! 2199-12-31 lies 229 years, 56 leap days and 364 days after it.
 
 use crate::{Day, laws, read_day, write_day};
