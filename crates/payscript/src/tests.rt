@@ -329,10 +329,13 @@ fn a_refused_input_puts_nothing(rt: HostRuntime) -> Result<(), Fail> {
 
 // Why a script's text is refused.
 fn refusal_of(alloc: Global, text: &[u8]) -> Result<Refusal, Fail> {
-    match check_script(alloc, text) {
-        Err(CheckStop::Refused(refusal)) => Ok(refusal),
-        Err(CheckStop::NoMemory) => Err(Fail::new("no memory for a script that is refused")),
-        Ok(_) => Err(Fail::new("a script that is refused was accepted")),
+    if text.len() > 1_048_576 {
+        return Err(Fail::new("a script of more bytes than a script file may have"));
+    }
+    let stop = check_script(alloc, text).err();
+    match stop.ok_or("a script that is refused was accepted")? {
+        CheckStop::Refused(refusal) => Ok(refusal),
+        CheckStop::NoMemory => Err(Fail::new("no memory for a script that is refused")),
     }
 }
 
