@@ -3,7 +3,7 @@ use Rattle.std.proofs.Common.{◌≡◌, List, [], ◌∷◌, ◌++◌, Option, 
 use Rattle.pay_dates.specs.declared.day.Day.{Day}
 use Rattle.pay_meaning.specs.declared.fault.FaultKind.{FaultKind}
 use Rattle.pay_meaning.specs.Language.{Event}
-use Rattle.pay_meaning.specs.Meaning.{Variables, fixing_at, Moment, moment_of, effect, Effect, Payment, Meaning, End, finished, faulted, meaning}
+use Rattle.pay_meaning.specs.Meaning.{Variables, fixing_at, Moment, moment_of, Effect, Payment, Meaning, End, finished, faulted, meaning_by}
 use Rattle.pay_meaning.specs.Meaning.{event_then, after_earlier}
 use Rattle.pay_meaning.specs.Laws.{and_from_end, MeaningOfParts, MeaningReadsOwnDates}
 
@@ -18,10 +18,10 @@ event-and date (Err fault) whole front rest same = refl
 event-and date (Ok done) whole front rest same = ap (after_earlier done.payments) (same done.variables) ∙ after-and done.payments (front done.variables).payments (front done.variables).end rest
 
 pub meaning-parts : MeaningOfParts
-meaning-parts [] rest variables fixings = refl
-meaning-parts (event ∷ front) rest variables fixings =
-    event-and event.date (effect event.body variables (moment_of event fixings)) (λ after. meaning (front ++ rest) after fixings) (λ after. meaning front after fixings) (λ after. meaning rest after fixings)
-    (λ after. meaning-parts front rest after fixings)
+meaning-parts run [] rest variables fixings = refl
+meaning-parts run (event ∷ front) rest variables fixings =
+    event-and event.date (run event.body variables (moment_of event fixings)) (λ after. meaning_by run (front ++ rest) after fixings)
+    (λ after. meaning_by run front after fixings) (λ after. meaning_by run rest after fixings) (λ after. meaning-parts run front rest after fixings)
 
 event-same : (date : Day) (e f : Result Effect FaultKind) (a b : Variables → Meaning) → e ≡ f → ((v : Variables) → a v ≡ b v) → event_then date e a ≡ event_then date f b
 event-same date e f a b same rest = ap (λ x. event_then date x a) same ∙ at f
@@ -34,7 +34,7 @@ moment-same : (event : Event) (x y : Option ℤ) → x ≡ y → ◌≡◌ {A = 
 moment-same event x y e = ap (λ z. let m : Moment = record { date = event.date; fixing = z; period = event.period; days = event.days } in m) e
 
 pub meaning-own : MeaningReadsOwnDates
-meaning-own [] variables a b agree = refl
-meaning-own (event ∷ rest) variables a b agree =
-    event-same event.date _ _ (λ after. meaning rest after a) (λ after. meaning rest after b)
-    (ap (effect event.body variables) (moment-same event (fixing_at a event.date) (fixing_at b event.date) agree.0)) (λ after. meaning-own rest after a b agree.1)
+meaning-own run [] variables a b agree = refl
+meaning-own run (event ∷ rest) variables a b agree =
+    event-same event.date _ _ (λ after. meaning_by run rest after a) (λ after. meaning_by run rest after b)
+    (ap (run event.body variables) (moment-same event (fixing_at a event.date) (fixing_at b event.date) agree.0)) (λ after. meaning-own run rest after a b agree.1)

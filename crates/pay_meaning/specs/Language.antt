@@ -1,5 +1,8 @@
--- The plain data of the language: numbers, statements, events and scripts, as every contract speaks of them.
-use Rattle.std.specs.Prelude.{ℕ, ℤ, List}
+-- The plain data of the language: numbers, conditions, statements, events and scripts, as every contract speaks of them.
+--
+-- Three forms are in no script that is read: a truth literal, a condition that is sure, and a group. They are what is left of conditions and
+-- ifs once their truth is known before a run.
+use Rattle.std.specs.Prelude.{ℕ, ℤ, Bool, List}
 use Rattle.pay_dates.specs.declared.day.Day.{Day}
 
 -- an operator with two sides: a sum, a difference, a product, a quotient, the lesser or the greater of two
@@ -23,15 +26,41 @@ pub data Number : Type 0 where
   absolute : Number → Number
   binary : Operator → Number → Number → Number
 
--- a statement: a variable is given a value, or a leg is paid an amount
-pub data Statement : Type 0 where
-  assign : List ℕ → Number → Statement
-  pay : List ℕ → Number → Statement
+-- a comparison of two numbers: `<`, `<=`, `>`, `>=`, `=`, `!=`
+pub data Comparison : Type 0 where
+  less : Comparison
+  at_most : Comparison
+  greater : Comparison
+  at_least : Comparison
+  equals : Comparison
+  differs : Comparison
 
--- the statements of an event, in their order
-pub data Body : Type 0 where
-  done : Body
-  next : Statement → Body → Body
+-- what a comparison carries beside its numbers; its truth does not depend on it
+pub data Note : Type 0 where
+  bare : Note
+
+-- a condition: two numbers compared, `not`, `and` and `or`; a truth literal; and a condition that is sure, which is asked for its fault alone
+pub data Condition : Type 0 where
+  compare : Comparison → Number → Number → Note → Condition
+  negation : Condition → Condition
+  conjunction : Condition → Condition → Condition
+  disjunction : Condition → Condition → Condition
+  settled : Bool → Condition
+  sure : Bool → Condition → Condition
+
+mutual
+  -- a statement: a variable is given a value, a leg is paid an amount, or one of two branches is chosen by a condition; and a group, which is
+  -- its statements in its place
+  pub data Statement : Type 0 where
+    assign : List ℕ → Number → Statement
+    pay : List ℕ → Number → Statement
+    choose : Condition → Body → Body → Statement
+    group : Body → Statement
+
+  -- the statements of an event or of a branch, in their order
+  pub data Body : Type 0 where
+    done : Body
+    next : Statement → Body → Body
 
 -- these statements, and one more after them
 abbrev pub and_then : Body → Statement → Body

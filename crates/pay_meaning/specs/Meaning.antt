@@ -1,6 +1,7 @@
 -- What a script means: the payments that its events make in one scenario.
-use Rattle.std.specs.Prelude.{ℕ, ◌*◌, ℤ, pos, neg_ℤ, ◌+ℤ◌, ◌-ℤ◌, unsigned_abs, List, [], ◌∷◌, ◌++◌, Option, Some, None, Result, Ok, Err, unwrap_or}
-use Rattle.std.specs.Ordering.{nat_cmp, int_cmp}
+use Rattle.std.specs.Prelude.{ℕ, ◌*◌, ℤ, pos, neg_ℤ, ◌+ℤ◌, ◌-ℤ◌, int_le, int_lt, unsigned_abs, Bool, true, false, not, List, [], ◌∷◌, ◌++◌}
+use Rattle.std.specs.Prelude.{Option, Some, None, Result, Ok, Err, unwrap_or}
+use Rattle.std.specs.Ordering.{nat_cmp, int_cmp, int_eq}
 use Rattle.std.specs.Cmp.Lexicographic.{slice_cmp}
 use Rattle.std.specs.FinMap.{FinMap, empty, get, insert}
 use Rattle.std.specs.Int.{int_min, int_max}
@@ -8,7 +9,9 @@ use Rattle.pay_fixed.specs.Round.{limited, product, quotient}
 use Rattle.pay_dates.specs.Days.{day_number}
 use Rattle.pay_dates.specs.declared.day.Day.{Day}
 use Rattle.pay_meaning.specs.Language.{Operator, add, subtract, multiply, divide, least, greatest, Number, literal, variable, spot, period, days}
-use Rattle.pay_meaning.specs.Language.{negative, absolute, binary, Statement, assign, pay, Body, done, next, Event}
+use Rattle.pay_meaning.specs.Language.{negative, absolute, binary, Comparison, less, at_most, greater, at_least, equals, differs}
+use Rattle.pay_meaning.specs.Language.{Condition, compare, negation, conjunction, disjunction, settled, sure}
+use Rattle.pay_meaning.specs.Language.{Statement, assign, pay, choose, group, Body, done, next, Event}
 use Rattle.pay_meaning.specs.declared.fault.FaultKind.{FaultKind}
 use Rattle.pay_meaning.specs.declared.fault.FaultKind.TheVariants.{Overflow, ZeroDivisor, MissingFixing}
 
@@ -56,8 +59,8 @@ known (Some raw) = Ok raw
 abbrev pub whole : ℕ → ℤ
 whole n = pos (n * 10_000)
 
--- the fault of one side, else the answer of its raw
-abbrev pub one : (ℤ → ℤ) → Result ℤ FaultKind → Result ℤ FaultKind
+-- the fault of one side, else the answer of it
+abbrev pub one : {A : Type 0} → (A → A) → Result A FaultKind → Result A FaultKind
 one f (Err fault) = Err fault
 one f (Ok a) = Ok (f a)
 
@@ -77,6 +80,36 @@ value days variables at = Ok (whole at.days)
 value (negative a) variables at = one neg_ℤ (value a variables at)
 value (absolute a) variables at = one (λ raw. pos (unsigned_abs raw)) (value a variables at)
 value (binary op left right) variables at = both (calculated op) (value left variables at) (value right variables at)
+
+-- whether two raws compare so
+abbrev pub compared : Comparison → ℤ → ℤ → Bool
+compared less a b = int_lt a b
+compared at_most a b = int_le a b
+compared greater a b = int_lt b a
+compared at_least a b = int_le b a
+compared equals a b = int_eq a b
+compared differs a b = not (int_eq a b)
+
+-- `and`: false after a false left side, else as the right side
+abbrev pub both_hold : Result Bool FaultKind → Result Bool FaultKind → Result Bool FaultKind
+both_hold (Err fault) right = Err fault
+both_hold (Ok true) right = right
+both_hold (Ok false) right = Ok false
+
+-- `or`: true after a true left side, else as the right side
+abbrev pub either_holds : Result Bool FaultKind → Result Bool FaultKind → Result Bool FaultKind
+either_holds (Err fault) right = Err fault
+either_holds (Ok true) right = Ok true
+either_holds (Ok false) right = right
+
+-- the truth of a condition, or the first fault from left to right; the skipped right side of `and` or `or` has none
+abbrev pub truth : Condition → Variables → Moment → Result Bool FaultKind
+truth (compare op left right note) variables at = both (λ a b. Ok (compared op a b)) (value left variables at) (value right variables at)
+truth (negation side) variables at = one not (truth side variables at)
+truth (conjunction left right) variables at = both_hold (truth left variables at) (truth right variables at)
+truth (disjunction left right) variables at = either_holds (truth left variables at) (truth right variables at)
+truth (settled answer) variables at = Ok answer
+truth (sure answer side) variables at = one (λ other. answer) (truth side variables at)
 
 -- an amount that a leg is paid at a date
 pub record Payment : Type 0 where
@@ -109,14 +142,25 @@ abbrev pub followed_by : Result Effect FaultKind → (Variables → Result Effec
 followed_by (Err fault) rest = Err fault
 followed_by (Ok effect) rest = after_payments effect.payments (rest effect.variables)
 
-abbrev pub effect_of : Statement → Variables → Moment → Result Effect FaultKind
-effect_of (assign name number) variables at = assigned variables name (value number variables at)
-effect_of (pay leg number) variables at = paid variables at.date leg (value number variables at)
+-- the branch that a condition chooses
+abbrev pub chosen : Result Bool FaultKind → Result Effect FaultKind → Result Effect FaultKind → Result Effect FaultKind
+chosen (Err fault) yes_part no_part = Err fault
+chosen (Ok true) yes_part no_part = yes_part
+chosen (Ok false) yes_part no_part = no_part
 
--- the effect of statements in order; the first fault is the fault of them all, and then there is no payment
-abbrev pub effect : Body → Variables → Moment → Result Effect FaultKind
-effect done variables at = Ok (record { variables = variables; payments = [] })
-effect (next statement rest) variables at = followed_by (effect_of statement variables at) (λ after. effect rest after at)
+abbrev mutual
+  -- the effect of a statement; of an `if` it is that of one branch
+  pub effect_of : Statement → Variables → Moment → Result Effect FaultKind
+  effect_of (assign name number) variables at = assigned variables name (value number variables at)
+  effect_of (pay leg number) variables at = paid variables at.date leg (value number variables at)
+  effect_of (choose condition yes_part no_part) variables at =
+      chosen (truth condition variables at) (effect yes_part variables at) (effect no_part variables at)
+  effect_of (group body) variables at = effect body variables at
+
+  -- the effect of statements in order; the first fault is the fault of them all, and then there is no payment
+  pub effect : Body → Variables → Moment → Result Effect FaultKind
+  effect done variables at = Ok (record { variables = variables; payments = [] })
+  effect (next statement rest) variables at = followed_by (effect_of statement variables at) (λ after. effect rest after at)
 
 -- how a scenario ends: all events ran, and these are the last variables; or the event of this date faulted
 pub data End : Type 0 where
@@ -137,11 +181,19 @@ abbrev pub event_then : Day → Result Effect FaultKind → (Variables → Meani
 event_then date (Err fault) rest = record { payments = []; end = faulted date fault }
 event_then date (Ok effect) rest = after_earlier effect.payments (rest effect.variables)
 
+-- how the statements of one event run: what they leave, from these variables at this moment
+abbrev pub EventRun : Type 0
+EventRun = Body → Variables → Moment → Result Effect FaultKind
+
+-- the meaning of events in their order, each run so, from these variables, under these fixings
+abbrev pub meaning_by : EventRun → List Event → Variables → Fixings → Meaning
+meaning_by run [] variables fixings = record { payments = []; end = finished variables }
+meaning_by run (event ∷ rest) variables fixings =
+    event_then event.date (run event.body variables (moment_of event fixings)) (λ after. meaning_by run rest after fixings)
+
 -- the direct meaning of events in their order, from these variables, under these fixings
 abbrev pub meaning : List Event → Variables → Fixings → Meaning
-meaning [] variables fixings = record { payments = []; end = finished variables }
-meaning (event ∷ rest) variables fixings =
-    event_then event.date (effect event.body variables (moment_of event fixings)) (λ after. meaning rest after fixings)
+meaning events variables fixings = meaning_by effect events variables fixings
 
 -- no variable was assigned yet
 abbrev pub no_variables : Variables

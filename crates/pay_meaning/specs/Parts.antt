@@ -1,12 +1,14 @@
--- The parts of a script in the order of the text: its statements and the numbers in them; and the names that they use.
+-- The parts of a script in the order of the text: its statements, and the conditions and the numbers in them; and the names that they use.
 use Rattle.std.specs.Prelude.{ℕ, Bool, true, false, List, [], ◌∷◌, ◌++◌, length, filter, Option, Some, None}
 use Rattle.std.specs.List.{flat_map}
-use Rattle.pay_meaning.specs.Language.{Number, literal, variable, spot, period, days, negative, absolute, binary, Statement, assign, pay, Body}
-use Rattle.pay_meaning.specs.Language.{done, next, Item, plain, Script}
+use Rattle.pay_meaning.specs.Language.{Number, literal, variable, spot, period, days, negative, absolute, binary, Condition, compare, negation}
+use Rattle.pay_meaning.specs.Language.{conjunction, disjunction, settled, sure, Statement, assign, pay, choose, group, Body, done, next}
+use Rattle.pay_meaning.specs.Language.{Item, plain, Script}
 
--- a part of a script: a statement, or a number of one
+-- a part of a script: a statement, a condition of one, or a number of one
 pub data Part : Type 0 where
   a_number : Number → Part
+  a_condition : Condition → Part
   a_statement : Statement → Part
 
 -- a number, and then the parts of its sides from left to right
@@ -20,14 +22,27 @@ number_parts (negative side) = a_number (negative side) ∷ number_parts side
 number_parts (absolute side) = a_number (absolute side) ∷ number_parts side
 number_parts (binary op left right) = a_number (binary op left right) ∷ (number_parts left ++ number_parts right)
 
--- a statement, and then the parts of its number
-abbrev pub statement_parts : Statement → List Part
-statement_parts (assign name number) = a_statement (assign name number) ∷ number_parts number
-statement_parts (pay leg number) = a_statement (pay leg number) ∷ number_parts number
+-- a condition, and then the parts of its sides from left to right; one that is sure is no part beside the one that it asks
+abbrev pub condition_parts : Condition → List Part
+condition_parts (compare op left right note) = a_condition (compare op left right note) ∷ (number_parts left ++ number_parts right)
+condition_parts (negation side) = a_condition (negation side) ∷ condition_parts side
+condition_parts (conjunction left right) = a_condition (conjunction left right) ∷ (condition_parts left ++ condition_parts right)
+condition_parts (disjunction left right) = a_condition (disjunction left right) ∷ (condition_parts left ++ condition_parts right)
+condition_parts (settled answer) = a_condition (settled answer) ∷ []
+condition_parts (sure answer side) = condition_parts side
 
-abbrev pub body_parts : Body → List Part
-body_parts done = []
-body_parts (next statement rest) = statement_parts statement ++ body_parts rest
+abbrev mutual
+  -- a statement, and then the parts of its number, or of its condition and its branches; a group is no part beside its statements
+  pub statement_parts : Statement → List Part
+  statement_parts (assign name number) = a_statement (assign name number) ∷ number_parts number
+  statement_parts (pay leg number) = a_statement (pay leg number) ∷ number_parts number
+  statement_parts (choose condition yes_part no_part) =
+      a_statement (choose condition yes_part no_part) ∷ (condition_parts condition ++ (body_parts yes_part ++ body_parts no_part))
+  statement_parts (group body) = body_parts body
+
+  pub body_parts : Body → List Part
+  body_parts done = []
+  body_parts (next statement rest) = statement_parts statement ++ body_parts rest
 
 abbrev pub item_parts : Item → List Part
 item_parts (plain date body) = body_parts body

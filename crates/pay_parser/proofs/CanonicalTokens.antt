@@ -11,9 +11,11 @@ use Rattle.pay_lexer.specs.declared.token.Sign.TheVariants as sign
 use Rattle.pay_lexer.specs.declared.token.TokenKind.{TokenKind}
 use Rattle.pay_lexer.specs.declared.token.TokenKind.TheVariants as token
 use Rattle.pay_meaning.specs.Language.{Operator, add, subtract, multiply, divide, least, greatest, Number, literal, variable, spot, period, days}
-use Rattle.pay_meaning.specs.Language.{negative, absolute, binary, Statement, assign, pay, Body, done, next, Item, plain, Script}
+use Rattle.pay_meaning.specs.Language.{negative, absolute, binary, Condition, compare, negation, conjunction, disjunction, settled, sure, Statement}
+use Rattle.pay_meaning.specs.Language.{assign, pay, choose, group, Body, done, next, Item, plain, Script}
 use Rattle.pay_meaning.specs.Words.{IsName}
-use Rattle.pay_parser.specs.Grammar.{bracketed, SpellsNumber, one_term, plus, minus, one_factor, times, over, SpellsFactor, one_atom, minus_sign}
+use Rattle.pay_tree.specs.Text.{unless_empty}
+use Rattle.pay_parser.specs.Grammar.{sign_of, bracketed, SpellsNumber, one_term, plus, minus, one_factor, times, over, SpellsFactor, one_atom, minus_sign}
 use Rattle.pay_parser.specs.Grammar.{SpellsAtom, of_literal, of_variable, in_brackets, of_least, of_greatest, of_absolute, of_spot, of_period}
 use Rattle.pay_parser.specs.Grammar.{of_days, two, assignment, payment, SpellsStatement, ended, SpellsBody, no_statement, one_more, SpellsItem}
 use Rattle.pay_parser.specs.Grammar.{dated, SpellsScript, no_item, one_more_item}
@@ -29,13 +31,26 @@ IsWritten (negative side) = IsWritten side
 IsWritten (absolute side) = IsWritten side
 IsWritten (binary op left right) = IsWritten left × IsWritten right
 
-abbrev pub IsWrittenStatement : Statement → Type 0
-IsWrittenStatement (assign name number) = IsName name × IsWritten number
-IsWrittenStatement (pay leg number) = IsName leg × IsWritten number
+-- the same of a condition, and that it is no truth literal and asks none that is sure
+abbrev pub IsWrittenCondition : Condition → Type 0
+IsWrittenCondition (compare op left right note) = IsWritten left × IsWritten right
+IsWrittenCondition (negation side) = IsWrittenCondition side
+IsWrittenCondition (conjunction left right) = IsWrittenCondition left × IsWrittenCondition right
+IsWrittenCondition (disjunction left right) = IsWrittenCondition left × IsWrittenCondition right
+IsWrittenCondition (settled answer) = ⊥
+IsWrittenCondition (sure answer side) = ⊥
 
-abbrev pub IsWrittenBody : Body → Type 0
-IsWrittenBody done = Unit {0}
-IsWrittenBody (next statement rest) = IsWrittenStatement statement × IsWrittenBody rest
+abbrev mutual
+  -- the same of a statement, and that it is no group
+  pub IsWrittenStatement : Statement → Type 0
+  IsWrittenStatement (assign name number) = IsName name × IsWritten number
+  IsWrittenStatement (pay leg number) = IsName leg × IsWritten number
+  IsWrittenStatement (choose condition yes_part no_part) = IsWrittenCondition condition × IsWrittenBody yes_part × IsWrittenBody no_part
+  IsWrittenStatement (group body) = ⊥
+
+  pub IsWrittenBody : Body → Type 0
+  IsWrittenBody done = Unit {0}
+  IsWrittenBody (next statement rest) = IsWrittenStatement statement × IsWrittenBody rest
 
 abbrev pub IsWrittenItem : Item → Type 0
 IsWrittenItem (plain date body) = IsDay date × IsWrittenBody body
@@ -72,13 +87,27 @@ number_tokens (binary op left right) = binary_tokens op (number_tokens left) (nu
 abbrev pub line_tokens : List ℕ → TokenKind → Number → List TokenKind
 line_tokens name middle number = token.Word name ∷ middle ∷ (number_tokens number ++ token.Sign sign.Semicolon ∷ [])
 
-abbrev pub statement_tokens : Statement → List TokenKind
-statement_tokens (assign name number) = line_tokens name (token.Sign sign.Equals) number
-statement_tokens (pay leg number) = line_tokens leg (token.Key key.Pays) number
+-- the tokens of a condition; a truth literal and a condition that is sure are in no script that is read
+abbrev pub condition_tokens : Condition → List TokenKind
+condition_tokens (compare op left right note) = number_tokens left ++ token.Sign (sign_of op) ∷ number_tokens right
+condition_tokens (negation side) = token.Key key.Not ∷ condition_tokens side
+condition_tokens (conjunction left right) = signed_tokens (condition_tokens left) (token.Key key.And) (condition_tokens right)
+condition_tokens (disjunction left right) = signed_tokens (condition_tokens left) (token.Key key.Or) (condition_tokens right)
+condition_tokens (settled answer) = []
+condition_tokens (sure answer side) = condition_tokens side
 
-abbrev pub body_tokens : Body → List TokenKind
-body_tokens done = []
-body_tokens (next statement rest) = statement_tokens statement ++ body_tokens rest
+abbrev mutual
+  pub statement_tokens : Statement → List TokenKind
+  statement_tokens (assign name number) = line_tokens name (token.Sign sign.Equals) number
+  statement_tokens (pay leg number) = line_tokens leg (token.Key key.Pays) number
+  statement_tokens (choose condition yes_part no_part) =
+      token.Key key.If ∷ (condition_tokens condition ++ token.Key key.Then ∷ (body_tokens yes_part
+      ++ (unless_empty no_part (token.Key key.Else ∷ body_tokens no_part) ++ token.Key key.Endif ∷ [])))
+  statement_tokens (group body) = body_tokens body
+
+  pub body_tokens : Body → List TokenKind
+  body_tokens done = []
+  body_tokens (next statement rest) = statement_tokens statement ++ body_tokens rest
 
 abbrev pub item_tokens : Item → List TokenKind
 item_tokens (plain date body) = token.Date date ∷ body_tokens body

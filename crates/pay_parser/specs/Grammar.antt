@@ -1,13 +1,16 @@
--- The grammar of scripts: which tokens spell which number, statement, item and script, over all ways to cut the tokens.
+-- The grammar of scripts: which tokens spell which number, condition, statement, item and script, over all ways to cut the tokens.
 use Rattle.std.specs.Prelude.{ℕ, ℤ, List, [], ◌∷◌, ◌++◌}
 use Rattle.pay_dates.specs.declared.day.Day.{Day}
 use Rattle.pay_fixed.specs.Grammar.{SpellsRaw}
 use Rattle.pay_lexer.specs.declared.token.Key.TheVariants as key
+use Rattle.pay_lexer.specs.declared.token.Sign.{Sign}
 use Rattle.pay_lexer.specs.declared.token.Sign.TheVariants as sign
 use Rattle.pay_lexer.specs.declared.token.TokenKind.{TokenKind}
 use Rattle.pay_lexer.specs.declared.token.TokenKind.TheVariants as token
 use Rattle.pay_meaning.specs.Language.{Operator, add, subtract, multiply, divide, least, greatest, Number, literal, variable, spot, period, days}
-use Rattle.pay_meaning.specs.Language.{negative, absolute, binary, Statement, assign, pay, Body, done, and_then, Item, plain, Script}
+use Rattle.pay_meaning.specs.Language.{negative, absolute, binary, Comparison, less, at_most, greater, at_least, equals, differs, bare, Condition}
+use Rattle.pay_meaning.specs.Language.{compare, negation, conjunction, disjunction, Statement, assign, pay, choose, Body, done, and_then, Item}
+use Rattle.pay_meaning.specs.Language.{plain, Script}
 use Rattle.pay_meaning.specs.Words.{IsName}
 
 -- these tokens in brackets
@@ -52,6 +55,35 @@ mutual
     one_more_number : (op : Operator) (ts us : List TokenKind) (a b : Number) → SpellsArguments op ts a → SpellsNumber us b
         → SpellsArguments op (ts ++ token.Sign sign.Comma ∷ us) (binary op a b)
 
+-- the sign of a comparison
+abbrev pub sign_of : Comparison → Sign
+sign_of less = sign.Less
+sign_of at_most = sign.LessEq
+sign_of greater = sign.More
+sign_of at_least = sign.MoreEq
+sign_of equals = sign.Equals
+sign_of differs = sign.Differs
+
+mutual
+  -- conjunctions under `or`, grouped to the left
+  pub data SpellsCondition : List TokenKind → Condition → Type 0 where
+    one_conjunction : (ts : List TokenKind) (c : Condition) → SpellsConjunction ts c → SpellsCondition ts c
+    or_else : (ts us : List TokenKind) (a b : Condition) → SpellsCondition ts a → SpellsConjunction us b
+        → SpellsCondition (ts ++ token.Key key.Or ∷ us) (disjunction a b)
+
+  -- negations under `and`, grouped to the left
+  pub data SpellsConjunction : List TokenKind → Condition → Type 0 where
+    one_negation : (ts : List TokenKind) (c : Condition) → SpellsNegation ts c → SpellsConjunction ts c
+    and_also : (ts us : List TokenKind) (a b : Condition) → SpellsConjunction ts a → SpellsNegation us b
+        → SpellsConjunction (ts ++ token.Key key.And ∷ us) (conjunction a b)
+
+  -- two numbers with the sign of a comparison between them, or a condition in brackets, with any number of `not`s before it
+  pub data SpellsNegation : List TokenKind → Condition → Type 0 where
+    not_sign : (ts : List TokenKind) (c : Condition) → SpellsNegation ts c → SpellsNegation (token.Key key.Not ∷ ts) (negation c)
+    two_numbers : (op : Comparison) (ts us : List TokenKind) (a b : Number) → SpellsNumber ts a → SpellsNumber us b
+        → SpellsNegation (ts ++ token.Sign (sign_of op) ∷ us) (compare op a b bare)
+    condition_in_brackets : (ts : List TokenKind) (c : Condition) → SpellsCondition ts c → SpellsNegation (bracketed ts) c
+
 -- `name = number`, or `leg pays number`
 pub data SpellsSimple : List TokenKind → Statement → Type 0 where
   assignment : (name : List ℕ) (ts : List TokenKind) (n : Number) → IsName name → SpellsNumber ts n
@@ -59,15 +91,25 @@ pub data SpellsSimple : List TokenKind → Statement → Type 0 where
   payment : (leg : List ℕ) (ts : List TokenKind) (n : Number) → IsName leg → SpellsNumber ts n
       → SpellsSimple (token.Word leg ∷ token.Key key.Pays ∷ ts) (pay leg n)
 
--- the same, with a `;` after it or none
-pub data SpellsStatement : List TokenKind → Statement → Type 0 where
-  bare : (ts : List TokenKind) (s : Statement) → SpellsSimple ts s → SpellsStatement ts s
-  ended : (ts : List TokenKind) (s : Statement) → SpellsSimple ts s → SpellsStatement (ts ++ token.Sign sign.Semicolon ∷ []) s
+mutual
+  -- one of these or an `if`, with a `;` after it or none
+  pub data SpellsStatement : List TokenKind → Statement → Type 0 where
+    simple : (ts : List TokenKind) (s : Statement) → SpellsSimple ts s → SpellsStatement ts s
+    simple_ended : (ts : List TokenKind) (s : Statement) → SpellsSimple ts s → SpellsStatement (ts ++ token.Sign sign.Semicolon ∷ []) s
+    choice : (ts : List TokenKind) (s : Statement) → SpellsChoice ts s → SpellsStatement ts s
+    choice_ended : (ts : List TokenKind) (s : Statement) → SpellsChoice ts s → SpellsStatement (ts ++ token.Sign sign.Semicolon ∷ []) s
 
--- any number of statements
-pub data SpellsBody : List TokenKind → Body → Type 0 where
-  no_statement : SpellsBody [] done
-  one_more : (ts us : List TokenKind) (b : Body) (s : Statement) → SpellsBody ts b → SpellsStatement us s → SpellsBody (ts ++ us) (and_then b s)
+  -- `if condition then statements endif`, or `if condition then statements else statements endif`
+  pub data SpellsChoice : List TokenKind → Statement → Type 0 where
+    without_else : (ts us : List TokenKind) (c : Condition) (a : Body) → SpellsCondition ts c → SpellsBody us a
+        → SpellsChoice (token.Key key.If ∷ (ts ++ token.Key key.Then ∷ (us ++ token.Key key.Endif ∷ []))) (choose c a done)
+    with_else : (ts us vs : List TokenKind) (c : Condition) (a b : Body) → SpellsCondition ts c → SpellsBody us a → SpellsBody vs b
+        → SpellsChoice (token.Key key.If ∷ (ts ++ token.Key key.Then ∷ (us ++ token.Key key.Else ∷ (vs ++ token.Key key.Endif ∷ [])))) (choose c a b)
+
+  -- any number of statements
+  pub data SpellsBody : List TokenKind → Body → Type 0 where
+    no_statement : SpellsBody [] done
+    one_more : (ts us : List TokenKind) (b : Body) (s : Statement) → SpellsBody ts b → SpellsStatement us s → SpellsBody (ts ++ us) (and_then b s)
 
 -- a date, and the statements on it
 pub data SpellsItem : List TokenKind → Item → Type 0 where

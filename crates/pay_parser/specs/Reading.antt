@@ -1,15 +1,18 @@
 -- The script of tokens, by reading them one at a time: what is open, what is awaited, and which tokens lead on.
-use Rattle.std.specs.Prelude.{ℕ, zero, suc, ℤ, List, [], ◌∷◌, ◌++◌, Option, Some, None, Result, Ok, Err, if◌then◌else◌}
+use Rattle.std.specs.Prelude.{ℕ, zero, suc, ℤ, Bool, true, false, List, [], ◌∷◌, ◌++◌, Option, Some, None, Result, Ok, Err, if◌then◌else◌}
 use Rattle.std.specs.Option.{option_map, option_and_then}
 use Rattle.pay_dates.specs.declared.day.Day.{Day}
 use Rattle.pay_fixed.specs.declared.NumberFault.{NumberFault}
 use Rattle.pay_fixed.specs.Decimal.{decimal_in}
-use Rattle.pay_lexer.specs.declared.token.Key.TheVariants.{Pays, Min, Max, Abs, Spot, Period, Days}
-use Rattle.pay_lexer.specs.declared.token.Sign.TheVariants.{Plus, Minus, Star, Slash, ParenLeft, ParenRight, Comma, Semicolon, Equals}
+use Rattle.pay_lexer.specs.declared.token.Key.TheVariants.{If, Then, Else, Endif, Pays, Min, Max, Abs, Spot, Period, Days, Not, And, Or}
+use Rattle.pay_lexer.specs.declared.token.Sign.TheVariants.{Plus, Minus, Star, Slash, ParenLeft, ParenRight, Comma, Semicolon, Equals, Differs}
+use Rattle.pay_lexer.specs.declared.token.Sign.TheVariants.{Less, LessEq, More, MoreEq}
 use Rattle.pay_lexer.specs.declared.token.TokenKind.{TokenKind}
 use Rattle.pay_lexer.specs.declared.token.TokenKind.TheVariants as token
 use Rattle.pay_meaning.specs.Language.{Operator, add, subtract, multiply, divide, least, greatest, Number, literal, variable, spot, period, days}
-use Rattle.pay_meaning.specs.Language.{negative, absolute, binary, Statement, assign, pay, Body, done, and_then, plain, Script}
+use Rattle.pay_meaning.specs.Language.{negative, absolute, binary, Comparison, less, at_most, greater, at_least, equals, differs, bare, Condition}
+use Rattle.pay_meaning.specs.Language.{compare, negation, conjunction, disjunction, Statement, assign, pay, choose, Body, done, and_then, plain}
+use Rattle.pay_meaning.specs.Language.{Script}
 use Rattle.pay_meaning.specs.Words.{is_name}
 
 -- what a statement does with its number: it gives it to a variable, or pays it to a leg
@@ -33,23 +36,44 @@ pub data Product : Type 0 where
 pub data Before : Type 0 where
   before : Sum → Product → ℕ → Before
 
--- What is open: the script with its items so far; an item on a date, with its statements so far; a statement that awaits its number;
--- a bracket of numbers, of `abs`, or of `min` or `max` with the number that its arguments so far give.
+-- what stands left of a comparison in its condition: a condition and `or`, if they do; a condition and `and`, if they do; and how many `not`s
+pub data Logic : Type 0 where
+  a_logic : Option Condition → Option Condition → ℕ → Logic
+
+-- what opened a condition: an `if`, or a bracket that stands where a comparison may begin, which may turn out to be that of a number
+pub data Opening : Type 0 where
+  of_if : Opening
+  of_bracket : Opening
+
+-- what statements belong to: an item on a date; the first branch of an `if` with this condition; or its second, with that and the first branch
+pub data Owner : Type 0 where
+  of_item : Day → Owner
+  of_yes : Condition → Owner
+  of_no : Condition → Body → Owner
+
+-- What is open: the script with its items so far; statements so far; a statement that awaits its number; a condition, by what opened it, with
+-- what stands left of a comparison in it; a comparison that awaits its right number; a bracket of numbers, of `abs`, or of `min` or `max` with
+-- the number that its arguments so far give.
 pub data Frame : Type 0 where
   a_script : Script → Frame
-  an_item : Day → Body → Frame
+  a_body : Owner → Body → Frame
   a_statement : Head → Frame
+  a_condition : Opening → Logic → Frame
+  a_comparison : Comparison → Number → Frame
   a_bracket : Before → Frame
   an_absolute : Before → Frame
   a_choice : Operator → Before → Option Number → Frame
 
--- What is awaited: a statement or an item; what follows the name that begins a statement; a factor; what follows a factor, which ends this
--- term after this sum; the bracket that opens this frame; the two brackets after a word that stands for this number.
+-- What is awaited: a statement or an item; the same or a `;`, after `endif`; what follows the name that begins a statement; a factor; what
+-- follows a factor, which ends this term after this sum; what follows this condition in brackets; the bracket that opens this frame; the two
+-- brackets after a word that stands for this number.
 pub data Mode : Type 0 where
   free : Mode
+  after_endif : Mode
   named : List ℕ → Mode
   factor_next : Before → Mode
   after : Sum → Number → Mode
+  after_condition : Condition → Mode
   bracket_next : Frame → Mode
   call_named : Number → Before → Mode
   call_opened : Number → Before → Mode
@@ -92,9 +116,42 @@ abbrev pub headed : Head → Number → Statement
 headed (assigns name) number = assign name number
 headed (pays leg) number = pay leg number
 
--- what is open, with one more statement in the item that is
+-- left of the first comparison of a condition
+abbrev pub no_logic : Logic
+no_logic = a_logic None None 0
+
+-- a comparison with so many `not`s before it
+abbrev pub negated_by : ℕ → Condition → Condition
+negated_by zero c = c
+negated_by (suc n) c = negated_by n (negation c)
+
+-- the conjunction that a condition ends, from the conditions left of it
+abbrev pub conjoined : Option Condition → Condition → Condition
+conjoined None c = c
+conjoined (Some left) c = conjunction left c
+
+-- the condition that a conjunction ends
+abbrev pub disjoined : Option Condition → Condition → Condition
+disjoined None c = c
+disjoined (Some left) c = disjunction left c
+
+-- the condition that a comparison ends
+abbrev pub condition_of : Logic → Condition → Condition
+condition_of (a_logic ors ands nots) c = disjoined ors (conjoined ands (negated_by nots c))
+
+-- left of the next comparison after `and`, after `or` and after `not`
+abbrev pub with_and : Logic → Condition → Logic
+with_and (a_logic ors ands nots) c = a_logic ors (Some (conjoined ands (negated_by nots c))) 0
+
+abbrev pub with_or : Logic → Condition → Logic
+with_or (a_logic ors ands nots) c = a_logic (Some (disjoined ors (conjoined ands (negated_by nots c)))) None 0
+
+abbrev pub with_not : Logic → Logic
+with_not (a_logic ors ands nots) = a_logic ors ands (suc nots)
+
+-- what is open, with one more statement among those that are
 abbrev pub with_statement : List Frame → Statement → Option (List Frame)
-with_statement (an_item date body ∷ rest) statement = Some (an_item date (and_then body statement) ∷ rest)
+with_statement (a_body owner body ∷ rest) statement = Some (a_body owner (and_then body statement) ∷ rest)
 with_statement frames statement = None
 
 -- what is open after the statement that this number ends
@@ -102,26 +159,54 @@ abbrev pub ended : List Frame → Number → Option (List Frame)
 ended (a_statement head ∷ rest) number = with_statement rest (headed head number)
 ended frames number = None
 
+-- what is open after the `if` that ends here
+abbrev pub chosen : List Frame → Option (List Frame)
+chosen (a_body (of_yes c) body ∷ rest) = with_statement rest (choose c body done)
+chosen (a_body (of_no c first) body ∷ rest) = with_statement rest (choose c first body)
+chosen frames = None
+
 -- the script that may end between statements
 abbrev pub closed : List Frame → Option Script
 closed (a_script items ∷ []) = Some items
-closed (an_item date body ∷ a_script items ∷ []) = Some (items ++ plain date body ∷ [])
+closed (a_body (of_item date) body ∷ a_script items ∷ []) = Some (items ++ plain date body ∷ [])
 closed frames = None
 
 -- after the date of a new item
 abbrev pub dated : Day → Script → State
-dated date items = state (an_item date done ∷ a_script items ∷ []) free
+dated date items = state (a_body (of_item date) done ∷ a_script items ∷ []) free
 
 -- after the word that begins a statement, which is a name
 abbrev pub step_word : List Frame → List ℕ → Option State
-step_word (an_item date body ∷ rest) letters = if is_name letters then Some (state (an_item date body ∷ rest) (named letters)) else None
+step_word (a_body owner body ∷ rest) letters = if is_name letters then Some (state (a_body owner body ∷ rest) (named letters)) else None
 step_word frames letters = None
 
--- between statements: the next item, or the next statement
+-- after `if`
+abbrev pub step_if : List Frame → Option State
+step_if (a_body owner body ∷ rest) = Some (state (a_condition of_if no_logic ∷ a_body owner body ∷ rest) (factor_next fresh))
+step_if frames = None
+
+-- after `else`
+abbrev pub step_else : List Frame → Option State
+step_else (a_body (of_yes c) body ∷ rest) = Some (state (a_body (of_no c body) done ∷ rest) free)
+step_else frames = None
+
+-- after `endif`
+abbrev pub step_endif : List Frame → Option State
+step_endif frames = option_map (λ rest. state rest after_endif) (chosen frames)
+
+-- between statements: the next item, the next statement, or the end of a branch
 abbrev pub step_free : List Frame → TokenKind → Option State
 step_free frames (token.Date date) = option_map (dated date) (closed frames)
 step_free frames (token.Word letters) = step_word frames letters
+step_free frames (token.Key If) = step_if frames
+step_free frames (token.Key Else) = step_else frames
+step_free frames (token.Key Endif) = step_endif frames
 step_free frames t = None
+
+-- after `endif`: the same, or its `;`
+abbrev pub step_after_endif : List Frame → TokenKind → Option State
+step_after_endif frames (token.Sign Semicolon) = Some (state frames free)
+step_after_endif frames t = step_free frames t
 
 -- after the name of a statement: `=` or `pays`
 abbrev pub step_named : List Frame → List ℕ → TokenKind → Option State
@@ -142,18 +227,39 @@ step_variable frames left letters = if is_name letters then Some (arrived frames
 abbrev pub with_sign : Before → Before
 with_sign (before sum product signs) = before sum product (suc signs)
 
--- where a factor is awaited: a minus sign, or what begins an atom
+-- nothing stands left of the atom
+abbrev pub is_fresh : Before → Bool
+is_fresh (before no_sum no_product zero) = true
+is_fresh left = false
+
+-- a comparison may begin here: it is the beginning of a number in a condition
+abbrev pub may_compare : List Frame → Before → Bool
+may_compare (a_condition opening logic ∷ rest) left = is_fresh left
+may_compare frames left = false
+
+-- after `(` where an atom is awaited
+abbrev pub step_open : List Frame → Before → State
+step_open frames left =
+    if may_compare frames left then state (a_condition of_bracket no_logic ∷ frames) (factor_next fresh) else state (a_bracket left ∷ frames) (factor_next fresh)
+
+-- after `not`
+abbrev pub step_not : List Frame → Before → Option State
+step_not (a_condition opening logic ∷ rest) left = if is_fresh left then Some (state (a_condition opening (with_not logic) ∷ rest) (factor_next fresh)) else None
+step_not frames left = None
+
+-- where a factor is awaited: a minus sign, what begins an atom, or `not`
 abbrev pub step_factor : List Frame → Before → TokenKind → Option State
 step_factor frames left (token.Number digits) = step_literal frames left (decimal_in digits)
 step_factor frames left (token.Word letters) = step_variable frames left letters
 step_factor frames left (token.Sign Minus) = Some (state frames (factor_next (with_sign left)))
-step_factor frames left (token.Sign ParenLeft) = Some (state (a_bracket left ∷ frames) (factor_next fresh))
+step_factor frames left (token.Sign ParenLeft) = Some (step_open frames left)
 step_factor frames left (token.Key Min) = Some (state frames (bracket_next (a_choice least left None)))
 step_factor frames left (token.Key Max) = Some (state frames (bracket_next (a_choice greatest left None)))
 step_factor frames left (token.Key Abs) = Some (state frames (bracket_next (an_absolute left)))
 step_factor frames left (token.Key Spot) = Some (state frames (call_named spot left))
 step_factor frames left (token.Key Period) = Some (state frames (call_named period left))
 step_factor frames left (token.Key Days) = Some (state frames (call_named days left))
+step_factor frames left (token.Key Not) = step_not frames left
 step_factor frames left t = None
 
 -- after `min`, `max` or `abs`: `(`
@@ -171,11 +277,56 @@ abbrev pub step_call_opened : List Frame → Number → Before → TokenKind →
 step_call_opened frames number left (token.Sign ParenRight) = Some (arrived frames left number)
 step_call_opened frames number left t = None
 
+-- after `)`, which ends a bracket with the condition that this one ends
+abbrev pub step_group : List Frame → Condition → Option State
+step_group (a_condition of_bracket logic ∷ rest) c = Some (state rest (after_condition (condition_of logic c)))
+step_group frames c = None
+
+-- after `then`, which ends the condition of an `if`
+abbrev pub step_then : List Frame → Condition → Option State
+step_then (a_condition of_if logic ∷ rest) c = Some (state (a_body (of_yes (condition_of logic c)) done ∷ rest) free)
+step_then frames c = None
+
+-- after `and`
+abbrev pub step_and : List Frame → Condition → Option State
+step_and (a_condition opening logic ∷ rest) c = Some (state (a_condition opening (with_and logic c) ∷ rest) (factor_next fresh))
+step_and frames c = None
+
+-- after `or`
+abbrev pub step_or : List Frame → Condition → Option State
+step_or (a_condition opening logic ∷ rest) c = Some (state (a_condition opening (with_or logic c) ∷ rest) (factor_next fresh))
+step_or frames c = None
+
+-- after a comparison, or a condition in brackets: the condition goes on, or a bracket or the condition of an `if` ends
+abbrev pub step_condition : List Frame → Condition → TokenKind → Option State
+step_condition frames c (token.Sign ParenRight) = step_group frames c
+step_condition frames c (token.Key Then) = step_then frames c
+step_condition frames c (token.Key And) = step_and frames c
+step_condition frames c (token.Key Or) = step_or frames c
+step_condition frames c t = None
+
+-- after the right number of a comparison
+abbrev pub step_compared : List Frame → Number → TokenKind → Option State
+step_compared (a_comparison op left ∷ rest) number t = step_condition rest (compare op left number bare) t
+step_compared frames number t = None
+
+-- after the sign of a comparison
+abbrev pub step_comparison : List Frame → Number → Comparison → Option State
+step_comparison (a_condition opening logic ∷ rest) number op = Some (state (a_comparison op number ∷ a_condition opening logic ∷ rest) (factor_next fresh))
+step_comparison frames number op = None
+
+-- after `)` and this number, in a condition that opened with a bracket: where the number is all of it, the bracket is that of a number
+abbrev pub step_number_group : Opening → Logic → List Frame → Number → Option State
+step_number_group of_bracket (a_logic None None zero) rest number = Some (arrived rest fresh number)
+step_number_group opening logic rest number = None
+
 -- after `)`, which ends the innermost bracket with this number
 abbrev pub step_close : List Frame → Number → Option State
 step_close (a_bracket left ∷ rest) number = Some (arrived rest left number)
 step_close (an_absolute left ∷ rest) number = Some (arrived rest left (absolute number))
 step_close (a_choice op left (Some first) ∷ rest) number = Some (arrived rest left (binary op first number))
+step_close (a_comparison op left ∷ rest) number = step_group rest (compare op left number bare)
+step_close (a_condition opening logic ∷ rest) number = step_number_group opening logic rest number
 step_close frames number = None
 
 -- the number of the arguments so far, with one more
@@ -196,7 +347,7 @@ step_semicolon frames number = option_map (λ rest. state rest free) (ended fram
 abbrev pub step_ended : List Frame → Number → TokenKind → Option State
 step_ended frames number t = option_and_then (λ rest. step_free rest t) (ended frames number)
 
--- after a factor: the term or the number goes on, or a bracket, an argument or a statement ends
+-- after a factor: the term or the number goes on, a comparison or a condition does, or a bracket, an argument, a condition or a statement ends
 abbrev pub step_after : List Frame → Sum → Number → TokenKind → Option State
 step_after frames sum term (token.Sign Plus) = Some (state frames (factor_next (before (sum_plus (summed sum term)) no_product 0)))
 step_after frames sum term (token.Sign Minus) = Some (state frames (factor_next (before (sum_minus (summed sum term)) no_product 0)))
@@ -205,16 +356,30 @@ step_after frames sum term (token.Sign Slash) = Some (state frames (factor_next 
 step_after frames sum term (token.Sign ParenRight) = step_close frames (summed sum term)
 step_after frames sum term (token.Sign Comma) = step_comma frames (summed sum term)
 step_after frames sum term (token.Sign Semicolon) = step_semicolon frames (summed sum term)
+step_after frames sum term (token.Sign Less) = step_comparison frames (summed sum term) less
+step_after frames sum term (token.Sign LessEq) = step_comparison frames (summed sum term) at_most
+step_after frames sum term (token.Sign More) = step_comparison frames (summed sum term) greater
+step_after frames sum term (token.Sign MoreEq) = step_comparison frames (summed sum term) at_least
+step_after frames sum term (token.Sign Equals) = step_comparison frames (summed sum term) equals
+step_after frames sum term (token.Sign Differs) = step_comparison frames (summed sum term) differs
 step_after frames sum term (token.Date date) = step_ended frames (summed sum term) (token.Date date)
 step_after frames sum term (token.Word letters) = step_ended frames (summed sum term) (token.Word letters)
+step_after frames sum term (token.Key If) = step_ended frames (summed sum term) (token.Key If)
+step_after frames sum term (token.Key Else) = step_ended frames (summed sum term) (token.Key Else)
+step_after frames sum term (token.Key Endif) = step_ended frames (summed sum term) (token.Key Endif)
+step_after frames sum term (token.Key Then) = step_compared frames (summed sum term) (token.Key Then)
+step_after frames sum term (token.Key And) = step_compared frames (summed sum term) (token.Key And)
+step_after frames sum term (token.Key Or) = step_compared frames (summed sum term) (token.Key Or)
 step_after frames sum term t = None
 
 -- by what is awaited
 abbrev pub step_in : List Frame → Mode → TokenKind → Option State
 step_in frames free t = step_free frames t
+step_in frames after_endif t = step_after_endif frames t
 step_in frames (named name) t = step_named frames name t
 step_in frames (factor_next left) t = step_factor frames left t
 step_in frames (after sum term) t = step_after frames sum term t
+step_in frames (after_condition c) t = step_condition frames c t
 step_in frames (bracket_next frame) t = step_bracket frames frame t
 step_in frames (call_named number left) t = step_call_named frames number left t
 step_in frames (call_opened number left) t = step_call_opened frames number left t
@@ -226,6 +391,7 @@ step (state frames mode) t = step_in frames mode t
 -- the script that ends here, if one can
 abbrev pub finish_in : List Frame → Mode → Option Script
 finish_in frames free = closed frames
+finish_in frames after_endif = closed frames
 finish_in frames (after sum term) = option_and_then closed (ended frames (summed sum term))
 finish_in frames mode = None
 

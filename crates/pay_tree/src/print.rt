@@ -5,7 +5,7 @@ ghost use Rattle.pay_tree.specs.Text as text_of;
 ghost use Rattle.pay_tree.specs.Views as view;
 
 use crate::name::Name;
-use crate::tree::{Binary, Expr, Item, Script, Stmt, Unary};
+use crate::tree::{Binary, Compare, Cond, Expr, Item, Script, Stmt, Unary};
 use pay_dates::{Day, write_day};
 use pay_fixed::NoMemory;
 use std::alloc::Global;
@@ -67,6 +67,52 @@ fn print_number(text: &mut Vec<u8>, number: &Expr) -> Result<(), NoMemory>
     Ok(())
 }
 
+/// The sign of a comparison, as it stands between two numbers.
+fn comparing(op: Compare) -> &'static [u8]
+    ensures { result.now ≡ text_of.comparing (view.comparison op) }
+{
+    match op {
+        Compare::Less => b" < ",
+        Compare::LessEq => b" <= ",
+        Compare::More => b" > ",
+        Compare::MoreEq => b" >= ",
+        Compare::Same => b" = ",
+        Compare::Differs => b" != ",
+    }
+}
+
+/// Appends a condition; where there is no memory, perhaps a part of it.
+fn print_condition(text: &mut Vec<u8>, condition: &Cond) -> Result<(), NoMemory>
+    ensures { OnOk result (text.new.items ≡ text.old.items ++ text_of.condition_text (view.condition condition.now)) }
+{
+    match condition {
+        Cond::Compare(op, left, right) => {
+            print_number(text, left)?;
+            text.extend_from_slice(comparing(*op))?;
+            print_number(text, right)?;
+        }
+        Cond::Not(side) => {
+            text.extend_from_slice(b"not ")?;
+            print_condition(text, side)?;
+        }
+        Cond::And(left, right) => {
+            text.extend_from_slice(b"(")?;
+            print_condition(text, left)?;
+            text.extend_from_slice(b" and ")?;
+            print_condition(text, right)?;
+            text.extend_from_slice(b")")?;
+        }
+        Cond::Or(left, right) => {
+            text.extend_from_slice(b"(")?;
+            print_condition(text, left)?;
+            text.extend_from_slice(b" or ")?;
+            print_condition(text, right)?;
+            text.extend_from_slice(b")")?;
+        }
+    }
+    Ok(())
+}
+
 /// Appends a line: the indent, the name, the text between it and its number, the number and `;`.
 fn print_line(
     text: &mut Vec<u8>,
@@ -85,22 +131,93 @@ fn print_line(
     Ok(())
 }
 
-/// Appends the line of a statement.
-fn print_statement(text: &mut Vec<u8>, indent: &[u8], statement: &Stmt) -> Result<(), NoMemory>
+/// Appends a line: the indent, `if`, the condition and `then`.
+fn print_if_line(text: &mut Vec<u8>, indent: &[u8], condition: &Cond) -> Result<(), NoMemory>
+    ensures { OnOk result (text.new.items ≡ text.old.items ++ text_of.if_line indent.now (view.condition condition.now)) }
+{
+    text.extend_from_slice(indent)?;
+    text.extend_from_slice(b"if ")?;
+    print_condition(text, condition)?;
+    text.extend_from_slice(b" then\n")?;
+    Ok(())
+}
+
+/// Appends a line: the indent and a word.
+fn print_word_line(text: &mut Vec<u8>, indent: &[u8], word: &[u8]) -> Result<(), NoMemory>
+    ensures { OnOk result (text.new.items ≡ text.old.items ++ text_of.word_line indent.now word.now) }
+{
+    text.extend_from_slice(indent)?;
+    text.extend_from_slice(word)?;
+    text.extend_from_slice(b"\n")?;
+    Ok(())
+}
+
+/// The indent of the branches of an `if`: two spaces more.
+fn deeper(alloc: Global, indent: &[u8]) -> Result<Vec<u8>, NoMemory>
+    ensures { IfOk result (λ inner. inner.items ≡ text_of.deeper indent.now) }
+{
+    let mut inner = Vec::from_slice(alloc, indent)?;
+    inner.extend_from_slice(b"  ")?;
+    Ok(inner)
+}
+
+/// Appends the lines of a statement.
+#[cycle(statements)]
+fn print_statement(
+    alloc: Global,
+    text: &mut Vec<u8>,
+    indent: &[u8],
+    statement: &Stmt,
+) -> Result<(), NoMemory>
     ensures { OnOk result (text.new.items ≡ text.old.items ++ text_of.statement_text indent.now (view.statement statement.now)) }
 {
     match statement {
         Stmt::Assign { name, value } => print_line(text, indent, name, b" = ", value),
         Stmt::Pay { leg, amount } => print_line(text, indent, leg, b" pays ", amount),
+        Stmt::If { cond, yes, no } => {
+            print_if_line(text, indent, cond)?;
+            let inner = deeper(alloc, indent)?;
+            print_statements(alloc, text, &inner, yes)?;
+            print_else(alloc, text, indent, no)?;
+            print_word_line(text, indent, b"endif")
+        }
+    }
+}
+
+/// Appends the line `else` and the lines of the statements after it, if there are any.
+#[cycle(statements)]
+fn print_else(
+    alloc: Global,
+    text: &mut Vec<u8>,
+    indent: &[u8],
+    statements: &[Stmt],
+) -> Result<(), NoMemory>
+    ensures { OnOk result (text.new.items ≡ text.old.items ++ text_of.unless_empty (view.body statements.now)
+        (text_of.word_line indent.now (codes "else") ++ text_of.body_text (text_of.deeper indent.now) (view.body statements.now))) }
+{
+    match statements {
+        [] => Ok(()),
+        [_, ..] => {
+            print_word_line(text, indent, b"else")?;
+            let inner = deeper(alloc, indent)?;
+            print_statements(alloc, text, &inner, statements)?;
+            Ok(())
+        }
     }
 }
 
 /// Appends the lines of statements.
-fn print_statements(text: &mut Vec<u8>, indent: &[u8], statements: &[Stmt]) -> Result<(), NoMemory>
+#[cycle(statements)]
+fn print_statements(
+    alloc: Global,
+    text: &mut Vec<u8>,
+    indent: &[u8],
+    statements: &[Stmt],
+) -> Result<(), NoMemory>
     ensures { OnOk result (text.new.items ≡ text.old.items ++ text_of.body_text indent.now (view.body statements.now)) }
 {
     for statement in statements {
-        print_statement(text, indent, statement)?;
+        print_statement(alloc, text, indent, statement)?;
     }
     Ok(())
 }
@@ -118,13 +235,13 @@ fn print_date(text: &mut Vec<u8>, date: Day) -> Result<(), NoMemory>
 }
 
 /// Appends the lines of an item.
-fn print_item(text: &mut Vec<u8>, item: &Item) -> Result<(), NoMemory>
+fn print_item(alloc: Global, text: &mut Vec<u8>, item: &Item) -> Result<(), NoMemory>
     ensures { OnOk result (text.new.items ≡ text.old.items ++ text_of.item_text (view.item item.now)) }
 {
     match item {
         Item::Plain { date, body } => {
             print_date(text, *date)?;
-            print_statements(text, ITEM_INDENT, body)
+            print_statements(alloc, text, ITEM_INDENT, body)
         }
     }
 }
@@ -134,7 +251,9 @@ fn print_item(text: &mut Vec<u8>, item: &Item) -> Result<(), NoMemory>
 /// Each line ends with a line feed. An item is a line `@2024-06-28`, and then a line for each of its statements, two
 /// spaces further in: `name = 1.5;` or `leg pays 1.5;`. A number is written with the fewest decimals and a name as it
 /// is. Each operation has brackets of its own: `(a + b)`, `(a - b)`, `(a * b)`, `(a / b)`, `min(a, b)`, `max(a, b)`,
-/// `abs(a)`, `spot()`, `period()`, `days()`; a minus stands right before its number, as `-a`.
+/// `abs(a)`, `spot()`, `period()`, `days()`; a minus stands right before its number, as `-a`. An `if` is a line
+/// `if a < b then`, the lines of its first branch two spaces further in, where its second has statements a line `else`
+/// and theirs, and a line `endif`. Conditions are `a < b` and its like, `not c`, `(c and d)`, `(c or d)`.
 ///
 /// # Errors
 ///
@@ -145,7 +264,7 @@ pub fn print_script(alloc: Global, script: &Script) -> Result<Vec<u8>, NoMemory>
 {
     let mut text = Vec::new(alloc);
     for item in &script.items {
-        print_item(&mut text, item)?;
+        print_item(alloc, &mut text, item)?;
     }
     Ok(text)
 }

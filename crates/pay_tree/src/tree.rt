@@ -1,4 +1,4 @@
-//! The trees: operators, numbers, statements, items, scripts, and events with their names.
+//! The trees: operators, numbers, conditions, statements, items, scripts, and events with their names.
 
 use crate::name::Name;
 use pay_dates::Day;
@@ -49,6 +49,36 @@ pub enum Expr {
     Binary(Binary, Box<Expr>, Box<Expr>),
 }
 
+/// A comparison of two numbers.
+#[derive(Clone, Copy, PartialEq, Eq, Debug)]
+pub enum Compare {
+    /// `left < right`.
+    Less,
+    /// `left <= right`.
+    LessEq,
+    /// `left > right`.
+    More,
+    /// `left >= right`.
+    MoreEq,
+    /// `left = right`.
+    Same,
+    /// `left != right`.
+    Differs,
+}
+
+/// A condition, as it is written.
+#[derive(Drop)]
+pub enum Cond {
+    /// Two numbers compared, the left one first.
+    Compare(Compare, Box<Expr>, Box<Expr>),
+    /// `not side`.
+    Not(Box<Cond>),
+    /// `left and right`.
+    And(Box<Cond>, Box<Cond>),
+    /// `left or right`.
+    Or(Box<Cond>, Box<Cond>),
+}
+
 /// A statement of an event.
 #[derive(Drop)]
 pub enum Stmt {
@@ -65,6 +95,15 @@ pub enum Stmt {
         leg: Name,
         /// The number that it pays.
         amount: Expr,
+    },
+    /// `if cond then yes else no endif`: one of two branches, by a condition.
+    If {
+        /// The condition.
+        cond: Cond,
+        /// The statements that run where it is true, in the order of the text.
+        yes: Vec<Stmt>,
+        /// The statements that run where it is false, in the order of the text; none where there is no `else`.
+        no: Vec<Stmt>,
     },
 }
 
