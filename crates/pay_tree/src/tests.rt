@@ -1,6 +1,8 @@
 //! Tests of the calls on names, and of the canonical text.
 
-use crate::{Binary, Expr, Item, Name, NameFault, Script, Stmt, Unary, print_script};
+use crate::{
+    Binary, Compare, Cond, Expr, Item, Name, NameFault, Script, Stmt, Unary, print_script,
+};
 use pay_dates::Day;
 use pay_fixed::Fixed;
 use std::alloc::Global;
@@ -93,6 +95,81 @@ fn numbers(alloc: Global) -> Result<Vec<Expr>, Fail> {
     Ok(numbers)
 }
 
+fn compare(alloc: Global, op: Compare, left: Expr, right: Expr) -> Result<Cond, Fail> {
+    Ok(Cond::Compare(op, Box::new(alloc, left)?, Box::new(alloc, right)?))
+}
+
+// Each comparison of `x` and 1.
+fn comparisons(alloc: Global) -> Result<Vec<Cond>, Fail> {
+    let mut comparisons = Vec::new(alloc);
+    for op in [
+        Compare::Less,
+        Compare::LessEq,
+        Compare::More,
+        Compare::MoreEq,
+        Compare::Same,
+        Compare::Differs,
+    ] {
+        comparisons.push(compare(alloc, op, variable(alloc, b"x")?, number(10_000)?)?)?;
+    }
+    Ok(comparisons)
+}
+
+// `not (x < 1 and (x < 0 or x > 2))`.
+fn connected(alloc: Global) -> Result<Cond, Fail> {
+    let low = compare(alloc, Compare::Less, variable(alloc, b"x")?, number(0)?)?;
+    let high = compare(
+        alloc,
+        Compare::More,
+        variable(alloc, b"x")?,
+        number(20_000)?,
+    )?;
+    let outside = Cond::Or(Box::new(alloc, low)?, Box::new(alloc, high)?);
+    let below = compare(
+        alloc,
+        Compare::Less,
+        variable(alloc, b"x")?,
+        number(10_000)?,
+    )?;
+    let both = Cond::And(Box::new(alloc, below)?, Box::new(alloc, outside)?);
+    Ok(Cond::Not(Box::new(alloc, both)?))
+}
+
+fn pays(alloc: Global, raw: i64) -> Result<Stmt, Fail> {
+    Ok(Stmt::Pay {
+        leg: Name::read(alloc, b"a")?,
+        amount: number(raw)?,
+    })
+}
+
+// An `if` within an `if`, with an `else` and without, and one without statements for each comparison.
+fn choices(alloc: Global) -> Result<Vec<Stmt>, Fail> {
+    let mut inner = Vec::new(alloc);
+    inner.push(pays(alloc, 10_000)?)?;
+    let mut yes = Vec::new(alloc);
+    yes.push(Stmt::If {
+        cond: compare(alloc, Compare::Same, Expr::Spot, number(10_000)?)?,
+        yes: inner,
+        no: Vec::new(alloc),
+    })?;
+    let mut no = Vec::new(alloc);
+    no.push(pays(alloc, 20_000)?)?;
+    let mut choices = Vec::new(alloc);
+    choices.push(Stmt::If {
+        cond: connected(alloc)?,
+        yes,
+        no,
+    })?;
+    for cond in comparisons(alloc)? {
+        choices.push(Stmt::If {
+            cond,
+            yes: Vec::new(alloc),
+            no: Vec::new(alloc),
+        })?;
+    }
+    Ok(choices)
+}
+
 const LINES: &[u8] = b"@2024-06-28
   x = ((-(1 + 2) * x) - 3);
   x = --0.5;
@@ -101,6 +178,25 @@ const LINES: &[u8] = b"@2024-06-28
   x = (period() / days());
   x pays 1;
 @2024-06-29
+  if not (x < 1 and (x < 0 or x > 2)) then
+    if spot() = 1 then
+      a pays 1;
+    endif
+  else
+    a pays 2;
+  endif
+  if x < 1 then
+  endif
+  if x <= 1 then
+  endif
+  if x > 1 then
+  endif
+  if x >= 1 then
+  endif
+  if x = 1 then
+  endif
+  if x != 1 then
+  endif
 ";
 
 #[test]
@@ -123,7 +219,7 @@ fn a_script_is_printed_in_lines(rt: HostRuntime) -> Result<(), Fail> {
     })?;
     items.push(Item::Plain {
         date: Day::new(2024, 6, 29).ok_or("a day")?,
-        body: Vec::new(alloc),
+        body: choices(alloc)?,
     })?;
     let text = print_script(alloc, &Script { items })?;
     assert_eq!(rt; text.as_slice(), LINES);
