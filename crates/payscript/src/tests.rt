@@ -20,7 +20,7 @@ const REPORT: &str =
 const ROOM: u32 = 10_000;
 
 // A script, a table, and the report of the script over the table.
-const REPORTS: [(&str, &str, &str); 17] = [
+const REPORTS: [(&str, &str, &str); 25] = [
     (SCRIPT, TABLE, REPORT),
     // Several payments, and a value that is rounded away from zero.
     (
@@ -108,6 +108,53 @@ const REPORTS: [(&str, &str, &str); 17] = [
         "scenario\ns\n",
         "scenario,date,leg,amount\ns,2024-06-28,a,0\n#nodes,,,\n",
     ),
+    // One branch runs, and the other can't fault.
+    (
+        "@2024-06-28 if alive = 0 then a pays 1 else a pays 1/0 endif",
+        "scenario\ns\n",
+        "scenario,date,leg,amount\ns,2024-06-28,a,1\n#nodes,,,\n",
+    ),
+    // A condition is asked for its faults though it could only be true.
+    (
+        "@2024-06-28 if spot() * 0 = 0 then a pays 1 endif",
+        "scenario,2024-06-28\nhere,100\ngone,\n",
+        "scenario,date,leg,amount\nhere,2024-06-28,a,1\ngone,2024-06-28,!missing fixing,\n#nodes,,,\n",
+    ),
+    // A skipped right side can't fault, and one that is not skipped can.
+    (
+        "@2024-06-28 if 1 = 2 and spot() < 0 then a pays 1 else a pays 2 endif",
+        "scenario\ns\n",
+        "scenario,date,leg,amount\ns,2024-06-28,a,2\n#nodes,,,\n",
+    ),
+    (
+        "@2024-06-28 if (1 + 1) * 2 > 3 and not (1 = 2 or spot() < 0) then a pays 1 endif",
+        "scenario\ns\n",
+        "scenario,date,leg,amount\ns,2024-06-28,!missing fixing,\n#nodes,,,\n",
+    ),
+    // Brackets of conditions.
+    (
+        "@2024-06-28 if ((1 < 2)) then a pays 1 endif;",
+        "scenario\ns\n",
+        "scenario,date,leg,amount\ns,2024-06-28,a,1\n#nodes,,,\n",
+    ),
+    // An `else` belongs to the innermost `if` that is open.
+    (
+        "@2024-06-28 if 1 = 1 then if 1 = 2 then a pays 1 else a pays 2 endif endif if 1 = 2 then if 1 = 2 then endif else a pays 3 endif",
+        "scenario\ns\n",
+        "scenario,date,leg,amount\ns,2024-06-28,a,2\ns,2024-06-28,a,3\n#nodes,,,\n",
+    ),
+    // `not` binds closer than `and`, and `and` closer than `or`.
+    (
+        "@2024-06-28 if not 1 = 1 and 1 = 2 then a pays 1 endif if 1 = 1 or 1 = 1 and 1 = 2 then a pays 2 endif",
+        "scenario\ns\n",
+        "scenario,date,leg,amount\ns,2024-06-28,a,2\n#nodes,,,\n",
+    ),
+    // Comparisons below, at and above a number.
+    (
+        "@2024-06-28 if spot() < 1 then a pays 1 endif if spot() <= 1 then a pays 2 endif if spot() > 1 then a pays 3 endif if spot() >= 1 then a pays 4 endif if spot() = 1 then a pays 5 endif if spot() != 1 then a pays 6 endif",
+        "scenario,2024-06-28\nb,0.9999\nc,1\nd,1.0001\n",
+        "scenario,date,leg,amount\nb,2024-06-28,a,1\nb,2024-06-28,a,2\nb,2024-06-28,a,6\nc,2024-06-28,a,2\nc,2024-06-28,a,4\nc,2024-06-28,a,5\nd,2024-06-28,a,3\nd,2024-06-28,a,4\nd,2024-06-28,a,6\n#nodes,,,\n",
+    ),
     // Nothing to run.
     ("", "scenario\n", "scenario,date,leg,amount\n#nodes,,,\n"),
 ];
@@ -124,7 +171,7 @@ const REFUSED: [(&str, &str); 6] = [
 ];
 
 // A script's text, and why it is refused.
-const REFUSALS: [(&str, Refusal); 12] = [
+const REFUSALS: [(&str, Refusal); 14] = [
     ("@2024-02-30", Refusal::BadByte { at: 0 }),
     ("@2024-06-28 a pays 1 ! 2", Refusal::BadByte { at: 21 }),
     ("@2024-06-28 a pays 1. ", Refusal::BadByte { at: 20 }),
@@ -142,13 +189,15 @@ const REFUSALS: [(&str, Refusal); 12] = [
     ("@2024-06-28 a pays", Refusal::NotScript),
     ("@2024-06-28 a pays (1", Refusal::NotScript),
     ("@2024-06-28 a pays min(1)", Refusal::NotScript),
-    ("@2024-06-28 if 1 = 1 then endif", Refusal::NotScript),
+    ("@2024-06-28 if (1) then endif", Refusal::NotScript),
+    ("@2024-06-28 if (1 < 2) + 3 > 0 then endif", Refusal::NotScript),
+    ("@2024-06-28 if 1 < 2 then a pays 1", Refusal::NotScript),
     ("schedule from", Refusal::NotScript),
 ];
 
 // A script of a piece that is repeated between a front and a back, how often, and why it is refused. The names in the
 // pieces differ where they have a `#`, which stands for a number.
-const REPEATED: [(&str, &str, &str, usize, Refusal); 11] = [
+const REPEATED: [(&str, &str, &str, usize, Refusal); 14] = [
     (
         "@2024-06-28 a pays ",
         "(",
@@ -169,6 +218,20 @@ const REPEATED: [(&str, &str, &str, usize, Refusal); 11] = [
         "1",
         97,
         Refusal::TooDeep { at: 115 },
+    ),
+    (
+        "@2024-06-28 ",
+        "if 1=1 then ",
+        "",
+        97,
+        Refusal::TooDeep { at: 1_164 },
+    ),
+    (
+        "@2024-06-28 if ",
+        "not ",
+        "1=1 then endif",
+        97,
+        Refusal::TooDeep { at: 399 },
     ),
     // A size is asked before a depth, wherever it stands, and a depth before the grammar.
     (
@@ -202,6 +265,17 @@ const REPEATED: [(&str, &str, &str, usize, Refusal); 11] = [
         "x = 1 ",
         "",
         131_073,
+        Refusal::TooMany {
+            what: What::Nodes,
+            limit: 262_144,
+        },
+    ),
+    // An `if`, a comparison, an assignment and three literals.
+    (
+        "@2024-06-28 ",
+        "if 1=1 then x=1 endif ",
+        "",
+        43_691,
         Refusal::TooMany {
             what: What::Nodes,
             limit: 262_144,
@@ -352,6 +426,35 @@ fn a_script_is_refused_for_its_first_fault(rt: HostRuntime) -> Result<(), Fail> 
         }
         script.push_str(back)?;
         assert_eq!(rt; refusal_of(alloc, script.as_bytes())?, refusal);
+    }
+    Ok(())
+}
+
+// What opens a form and what closes it, on both sides of a middle: as deep as the limits of tokens allow.
+const DEEPEST: [(&str, &str, &str, &str, &str); 3] = [
+    ("", "if 1 = 1 then ", "a pays 1 ", "endif ", ""),
+    ("", "if 1 = 2 then a pays 2 else ", "a pays 1 ", "endif ", ""),
+    ("if ", "(", "1 = 1", ")", " then a pays 1 endif"),
+];
+
+#[test]
+fn the_deepest_ifs_and_brackets_run(rt: HostRuntime) -> Result<(), Fail> {
+    let alloc = rt.alloc();
+    for (front, opening, middle, closing, back) in DEEPEST {
+        let mut script = String::from_str(alloc, "@2024-06-28 ")?;
+        script.push_str(front)?;
+        for _ in 0..96 {
+            script.push_str(opening)?;
+        }
+        script.push_str(middle)?;
+        for _ in 0..96 {
+            script.push_str(closing)?;
+        }
+        script.push_str(back)?;
+        let mut depot = depot_with(alloc, script.as_bytes(), b"scenario\ns\n")?;
+        let mut out = MemorySink::new(alloc, ROOM)?;
+        let report = "scenario,date,leg,amount\ns,2024-06-28,a,1\n#nodes,,,\n";
+        ends(&rt, alloc, &mut depot, &mut out, 0, report)?;
     }
     Ok(())
 }
