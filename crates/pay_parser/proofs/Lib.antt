@@ -1,3 +1,4 @@
+pub mod ConditionComplete
 pub mod ScriptComplete
 pub mod ScriptSound
 pub mod DepthLemmas
