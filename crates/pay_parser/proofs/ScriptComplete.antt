@@ -1,5 +1,5 @@
 -- A script that tokens spell is read from them.
-use Rattle.std.proofs.Common.{◌≡◌, ℕ, List, [], ◌∷◌, ◌++◌, Some, None, if◌then◌else◌, refl, sym, ap, ◌∙◌, append_assoc}
+use Rattle.std.proofs.Common.{◌≡◌, ℕ, List, [], ◌∷◌, ◌++◌, Some, None, refl, sym, ap, ◌∙◌, append_assoc}
 use Rattle.pay_dates.specs.declared.day.Day.{Day}
 use Rattle.pay_lexer.specs.declared.token.Key.TheVariants as key
 use Rattle.pay_lexer.specs.declared.token.Sign.TheVariants as sign
@@ -24,6 +24,7 @@ data Stands : Owner → List Frame → Body → State → Type 0 where
       → headed head (summed sum term) ≡ last → Stands owner outer (and_then body last) (state (a_statement head ∷ a_body owner body ∷ outer) (after sum term))
   after_choice : (owner : Owner) (outer : List Frame) (body : Body) → Stands owner outer body (state (a_body owner body ∷ outer) after_endif)
 
+-- a token that may follow them leads on as it does between statements, and so does the end
 stands_word : (owner : Owner) (outer : List Frame) (body : Body) (place : State) (name : List ℕ) → Stands owner outer body place
     → step place (token.Word name) ≡ step_free (a_body owner body ∷ outer) (token.Word name)
 stands_word _ _ _ _ name (freely owner outer body) = refl
