@@ -4,12 +4,16 @@ use Rattle.std.proofs.Common.{append-nil, arith}
 use Rattle.std.proofs.lemmas.Bool.{cases_Bool, false≢true}
 use Rattle.std.proofs.lemmas.Int.{ints}
 use Rattle.std.proofs.lemmas.List.Elements.{filter-append}
+use Rattle.pay_lexer.specs.declared.token.Key.TheVariants as key
 use Rattle.pay_lexer.specs.declared.token.TokenKind.{TokenKind}
-use Rattle.pay_meaning.specs.Language.{Operator, Number, Statement, assign, pay, Body, done, next, and_then, Item, plain, Script}
+use Rattle.pay_lexer.specs.declared.token.TokenKind.TheVariants as token
+use Rattle.pay_meaning.specs.Language.{Operator, Number, Condition, Statement, assign, pay, choose, group, Body, done, next, and_then, Item, plain, Script}
 use Rattle.pay_parser.specs.Grammar.{SpellsNumber, one_term, plus, minus, SpellsTerm, one_factor, times, over, SpellsFactor, one_atom, minus_sign}
 use Rattle.pay_parser.specs.Grammar.{SpellsAtom, of_literal, of_variable, in_brackets, of_least, of_greatest, of_absolute, of_spot, of_period}
-use Rattle.pay_parser.specs.Grammar.{of_days, SpellsArguments, two, one_more_number, SpellsSimple, assignment, payment, SpellsStatement, bare}
-use Rattle.pay_parser.specs.Grammar.{ended, SpellsBody, no_statement, one_more, SpellsItem, dated, SpellsScript, no_item, one_more_item}
+use Rattle.pay_parser.specs.Grammar.{of_days, SpellsArguments, two, one_more_number, SpellsCondition, one_conjunction, or_else, SpellsConjunction}
+use Rattle.pay_parser.specs.Grammar.{one_negation, and_also, SpellsNegation, not_sign, two_numbers, condition_in_brackets, SpellsSimple, assignment}
+use Rattle.pay_parser.specs.Grammar.{payment, SpellsStatement, simple, simple_ended, choice, choice_ended, SpellsChoice, without_else, with_else}
+use Rattle.pay_parser.specs.Grammar.{SpellsBody, no_statement, one_more, SpellsItem, dated, SpellsScript, no_item, one_more_item}
 use Rattle.pay_parser.specs.TokenLimits.{is_if, is_endif, open_ifs}
 
 -- an `if` or an `endif`
@@ -26,13 +30,17 @@ IfsWithin most n [] = Unit {0}
 IfsWithin most n (t ∷ ts) = ((n +ℤ open_ifs (t ∷ [])) ≤ℤ most) × IfsWithin most (n +ℤ open_ifs (t ∷ [])) ts
 
 -- the `if`s and `endif`s of the statements of a script, in their order
-abbrev pub statement_if_marks : Statement → List TokenKind
-statement_if_marks (assign name number) = []
-statement_if_marks (pay leg number) = []
+abbrev mutual
+  pub statement_if_marks : Statement → List TokenKind
+  statement_if_marks (assign name number) = []
+  statement_if_marks (pay leg number) = []
+  statement_if_marks (choose condition yes_part no_part) =
+      token.Key key.If ∷ (body_if_marks yes_part ++ (body_if_marks no_part ++ token.Key key.Endif ∷ []))
+  statement_if_marks (group body) = body_if_marks body
 
-abbrev pub body_if_marks : Body → List TokenKind
-body_if_marks done = []
-body_if_marks (next statement rest) = statement_if_marks statement ++ body_if_marks rest
+  pub body_if_marks : Body → List TokenKind
+  body_if_marks done = []
+  body_if_marks (next statement rest) = statement_if_marks statement ++ body_if_marks rest
 
 abbrev pub item_if_marks : Item → List TokenKind
 item_if_marks (plain date body) = body_if_marks body
@@ -75,22 +83,49 @@ mutual
   arguments_marks _ _ _ (two op ts us a b h k) = marks_of ts _ [] [] (number_marks ts a h) (number_marks us b k)
   arguments_marks _ _ _ (one_more_number op ts us a b h k) = marks_of ts _ [] [] (arguments_marks op ts a h) (number_marks us b k)
 
+mutual
+  condition_marks : (ts : List TokenKind) (c : Condition) → SpellsCondition ts c → if_marks ts ≡ []
+  condition_marks _ _ (one_conjunction ts c h) = conjunction_marks ts c h
+  condition_marks _ _ (or_else ts us a b h k) = marks_of ts _ [] [] (condition_marks ts a h) (conjunction_marks us b k)
+
+  conjunction_marks : (ts : List TokenKind) (c : Condition) → SpellsConjunction ts c → if_marks ts ≡ []
+  conjunction_marks _ _ (one_negation ts c h) = negation_marks ts c h
+  conjunction_marks _ _ (and_also ts us a b h k) = marks_of ts _ [] [] (conjunction_marks ts a h) (negation_marks us b k)
+
+  negation_marks : (ts : List TokenKind) (c : Condition) → SpellsNegation ts c → if_marks ts ≡ []
+  negation_marks _ _ (not_sign ts c h) = negation_marks ts c h
+  negation_marks _ _ (two_numbers op ts us a b h k) = marks_of ts _ [] [] (number_marks ts a h) (number_marks us b k)
+  negation_marks _ _ (condition_in_brackets ts c h) = marks_of ts _ [] [] (condition_marks ts c h) refl
+
 simple_marks : (ts : List TokenKind) (s : Statement) → SpellsSimple ts s → if_marks ts ≡ statement_if_marks s
 simple_marks _ _ (assignment name ts n h k) = number_marks ts n k
 simple_marks _ _ (payment leg ts n h k) = number_marks ts n k
-
-statement_marks : (ts : List TokenKind) (s : Statement) → SpellsStatement ts s → if_marks ts ≡ statement_if_marks s
-statement_marks _ _ (bare ts s h) = simple_marks ts s h
-statement_marks _ _ (ended ts s h) = marks_of ts _ _ [] (simple_marks ts s h) refl ∙ append-nil (statement_if_marks s)
 
 one_more_marks : (b : Body) (s : Statement) → body_if_marks b ++ statement_if_marks s ≡ body_if_marks (and_then b s)
 one_more_marks done s = sym (append-nil (statement_if_marks s))
 one_more_marks (next first rest) s = append_assoc (statement_if_marks first) (body_if_marks rest) (statement_if_marks s)
     ∙ ap (λ ms. statement_if_marks first ++ ms) (one_more_marks rest s)
 
-body_marks : (ts : List TokenKind) (b : Body) → SpellsBody ts b → if_marks ts ≡ body_if_marks b
-body_marks _ _ no_statement = refl
-body_marks _ _ (one_more ts us b s h k) = marks_of ts us _ _ (body_marks ts b h) (statement_marks us s k) ∙ one_more_marks b s
+-- an `if` whose condition has none of them
+choice_of : (ts us ms : List TokenKind) → if_marks ts ≡ [] → if_marks us ≡ ms
+    → if_marks (token.Key key.If ∷ (ts ++ token.Key key.Then ∷ us)) ≡ token.Key key.If ∷ ms
+choice_of ts us ms h k = ap (λ ns. token.Key key.If ∷ ns) (marks_of ts (token.Key key.Then ∷ us) [] ms h k)
+
+mutual
+  statement_marks : (ts : List TokenKind) (s : Statement) → SpellsStatement ts s → if_marks ts ≡ statement_if_marks s
+  statement_marks _ _ (simple ts s h) = simple_marks ts s h
+  statement_marks _ _ (simple_ended ts s h) = marks_of ts _ _ [] (simple_marks ts s h) refl ∙ append-nil (statement_if_marks s)
+  statement_marks _ _ (choice ts s h) = choice_marks ts s h
+  statement_marks _ _ (choice_ended ts s h) = marks_of ts _ _ [] (choice_marks ts s h) refl ∙ append-nil (statement_if_marks s)
+
+  choice_marks : (ts : List TokenKind) (s : Statement) → SpellsChoice ts s → if_marks ts ≡ statement_if_marks s
+  choice_marks _ _ (without_else ts us c a h k) = choice_of ts _ _ (condition_marks ts c h) (marks_of us _ _ _ (body_marks us a k) refl)
+  choice_marks _ _ (with_else ts us vs c a b h k l) =
+      choice_of ts _ _ (condition_marks ts c h) (marks_of us _ _ _ (body_marks us a k) (marks_of vs _ _ _ (body_marks vs b l) refl))
+
+  body_marks : (ts : List TokenKind) (b : Body) → SpellsBody ts b → if_marks ts ≡ body_if_marks b
+  body_marks _ _ no_statement = refl
+  body_marks _ _ (one_more ts us b s h k) = marks_of ts us _ _ (body_marks ts b h) (statement_marks us s k) ∙ one_more_marks b s
 
 item_marks : (ts : List TokenKind) (i : Item) → SpellsItem ts i → if_marks ts ≡ item_if_marks i
 item_marks _ _ (dated date ts b h) = body_marks ts b h
