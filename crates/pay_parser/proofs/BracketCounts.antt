@@ -1,13 +1,20 @@
 -- The brackets that are open in the canonical text of a script: in a statement at most one more than it has operators.
 use Rattle.std.proofs.Common.{◌≡◌, ℕ, zero, suc, ◌+◌, ◌≤◌, max, List, [], ◌∷◌, ◌++◌, if◌then◌else◌, refl, append_assoc, arith}
+use Rattle.pay_lexer.specs.declared.token.Key.TheVariants as key
 use Rattle.pay_lexer.specs.declared.token.Sign.TheVariants as sign
 use Rattle.pay_lexer.specs.declared.token.TokenKind.{TokenKind}
 use Rattle.pay_lexer.specs.declared.token.TokenKind.TheVariants as token
 use Rattle.pay_meaning.specs.Language.{Operator, add, subtract, multiply, divide, least, greatest, Number, literal, variable, spot, period, days}
-use Rattle.pay_meaning.specs.Language.{negative, absolute, binary, Statement, assign, pay, Body, done, next, Item, plain, Script}
+use Rattle.pay_meaning.specs.Language.{negative, absolute, binary, Comparison, less, at_most, greater, at_least, equals, differs, Condition, compare}
+use Rattle.pay_meaning.specs.Language.{negation, conjunction, disjunction, settled, sure, Statement, assign, pay, choose, group, Body, done, next}
+use Rattle.pay_meaning.specs.Language.{Item, plain, Script}
+use Rattle.pay_tree.specs.Text.{unless_empty}
+use Rattle.pay_parser.specs.Grammar.{sign_of}
 use Rattle.pay_parser.specs.TokenLimits.{is_open_bracket, is_closing_bracket}
-use Rattle.pay_parser.proofs.CanonicalTokens.{binary_tokens, number_tokens, statement_tokens, body_tokens, item_tokens, script_tokens}
-use Rattle.pay_parser.proofs.OperatorCounts.{operators_on, statement_operators, body_operators, item_operators, script_operators}
+use Rattle.pay_parser.proofs.CanonicalTokens.{signed_tokens, binary_tokens, number_tokens, condition_tokens, statement_tokens, body_tokens, item_tokens}
+use Rattle.pay_parser.proofs.CanonicalTokens.{script_tokens}
+use Rattle.pay_parser.proofs.OperatorCounts.{operators_on, condition_operators_on, statement_operators, body_operators, item_operators}
+use Rattle.pay_parser.proofs.OperatorCounts.{script_operators}
 
 -- one less, or none
 abbrev pub one_less : ℕ → ℕ
@@ -63,6 +70,56 @@ depth_operators (binary op left right) k =
     let second = operators_grow right (suc (operators_on k left)) in
     omega arith
 
+-- the most brackets that are open in a condition
+abbrev pub condition_depth : Condition → ℕ
+condition_depth (compare op left right note) = max (depth left) (depth right)
+condition_depth (negation side) = condition_depth side
+condition_depth (conjunction left right) = suc (max (condition_depth left) (condition_depth right))
+condition_depth (disjunction left right) = suc (max (condition_depth left) (condition_depth right))
+condition_depth (settled answer) = 0
+condition_depth (sure answer side) = condition_depth side
+
+condition_operators_grow : (c : Condition) (k : ℕ) → k ≤ condition_operators_on k c
+condition_operators_grow (compare op left right note) k =
+    let first = operators_grow left k in
+    let second = operators_grow right (suc (operators_on k left)) in
+    omega arith
+condition_operators_grow (negation side) k = let more = condition_operators_grow side (suc k) in omega arith
+condition_operators_grow (conjunction left right) k =
+    let first = condition_operators_grow left k in
+    let second = condition_operators_grow right (suc (condition_operators_on k left)) in
+    omega arith
+condition_operators_grow (disjunction left right) k =
+    let first = condition_operators_grow left k in
+    let second = condition_operators_grow right (suc (condition_operators_on k left)) in
+    omega arith
+condition_operators_grow (settled answer) k = omega arith
+condition_operators_grow (sure answer side) k = condition_operators_grow side k
+
+-- each bracket of a condition but that of a word alone has an operator of its own
+condition_depth_operators : (c : Condition) (k : ℕ) → k + condition_depth c ≤ suc (condition_operators_on k c)
+condition_depth_operators (compare op left right note) k =
+    let a = depth_operators left k in
+    let b = depth_operators right (suc (operators_on k left)) in
+    let first = operators_grow left k in
+    let second = operators_grow right (suc (operators_on k left)) in
+    omega arith
+condition_depth_operators (negation side) k = let h = condition_depth_operators side (suc k) in omega arith
+condition_depth_operators (conjunction left right) k =
+    let a = condition_depth_operators left k in
+    let b = condition_depth_operators right (suc (condition_operators_on k left)) in
+    let first = condition_operators_grow left k in
+    let second = condition_operators_grow right (suc (condition_operators_on k left)) in
+    omega arith
+condition_depth_operators (disjunction left right) k =
+    let a = condition_depth_operators left k in
+    let b = condition_depth_operators right (suc (condition_operators_on k left)) in
+    let first = condition_operators_grow left k in
+    let second = condition_operators_grow right (suc (condition_operators_on k left)) in
+    omega arith
+condition_depth_operators (settled answer) k = omega arith
+condition_depth_operators (sure answer side) k = condition_depth_operators side k
+
 -- two numbers in a bracket that is open already, the sign between them, and the closing bracket
 pair_stays : (most n : ℕ) (t : TokenKind) (ts us rest : List TokenKind) → opened (suc n) t ≡ suc n → suc n ≤ most
     → ((more : List TokenKind) → StaysWithin most (suc n) more → StaysWithin most (suc n) (ts ++ more))
@@ -109,25 +166,75 @@ number_stays most (binary op left right) n rest small h =
     binary_stays op most n (number_tokens left) (number_tokens right) rest (omega arith)
     (λ more k. number_stays most left (suc n) more (omega arith) k) (λ more k. number_stays most right (suc n) more (omega arith) k) h
 
-statement_stays : (most : ℕ) (s : Statement) (rest : List TokenKind) → suc (statement_operators s) ≤ most → StaysWithin most 0 rest
-    → StaysWithin most 0 (statement_tokens s ++ rest)
-statement_stays most (assign name number) rest small h =
-    let d = depth_operators number 1 in
-    let line : StaysWithin most 0 (number_tokens number ++ token.Sign sign.Semicolon ∷ rest) =
-    number_stays most number 0 (token.Sign sign.Semicolon ∷ rest) (omega arith) (omega arith, h) in
-    (omega arith, (omega arith, regrouped most 0 (number_tokens number) (token.Sign sign.Semicolon ∷ []) rest line))
-statement_stays most (pay leg number) rest small h =
-    let d = depth_operators number 0 in
-    let line : StaysWithin most 0 (number_tokens number ++ token.Sign sign.Semicolon ∷ rest) =
-    number_stays most number 0 (token.Sign sign.Semicolon ∷ rest) (omega arith) (omega arith, h) in
-    (omega arith, (omega arith, regrouped most 0 (number_tokens number) (token.Sign sign.Semicolon ∷ []) rest line))
+-- the sign of a comparison is no bracket
+sign_leaves : (op : Comparison) (n : ℕ) → opened n (token.Sign (sign_of op)) ≡ n
+sign_leaves less n = refl
+sign_leaves at_most n = refl
+sign_leaves greater n = refl
+sign_leaves at_least n = refl
+sign_leaves equals n = refl
+sign_leaves differs n = refl
 
-body_stays : (most : ℕ) (b : Body) (rest : List TokenKind) → suc (body_operators b) ≤ most → StaysWithin most 0 rest
-    → StaysWithin most 0 (body_tokens b ++ rest)
-body_stays most done rest small h = h
-body_stays most (next statement others) rest small h =
-    regrouped most 0 (statement_tokens statement) (body_tokens others) rest
-    (statement_stays most statement (body_tokens others ++ rest) (omega arith) (body_stays most others rest (omega arith) h))
+-- the tokens of a condition close all brackets that they open
+condition_stays : (most : ℕ) (c : Condition) (n : ℕ) (rest : List TokenKind) → n + condition_depth c ≤ most → StaysWithin most n rest
+    → StaysWithin most n (condition_tokens c ++ rest)
+condition_stays most (compare op left right note) n rest small h =
+    let second = number_stays most right n rest (omega arith) h in
+    let same = sign_leaves op n in
+    let between : StaysWithin most n (token.Sign (sign_of op) ∷ (number_tokens right ++ rest)) = rw same (omega arith, second) in
+    regrouped most n (number_tokens left) (token.Sign (sign_of op) ∷ number_tokens right) rest
+    (number_stays most left n (token.Sign (sign_of op) ∷ (number_tokens right ++ rest)) (omega arith) between)
+condition_stays most (negation side) n rest small h = (omega arith, condition_stays most side n rest small h)
+condition_stays most (conjunction left right) n rest small h =
+    (omega arith, pair_stays most n (token.Key key.And) (condition_tokens left) (condition_tokens right) rest refl (omega arith)
+    (λ more k. condition_stays most left (suc n) more (omega arith) k) (λ more k. condition_stays most right (suc n) more (omega arith) k) h)
+condition_stays most (disjunction left right) n rest small h =
+    (omega arith, pair_stays most n (token.Key key.Or) (condition_tokens left) (condition_tokens right) rest refl (omega arith)
+    (λ more k. condition_stays most left (suc n) more (omega arith) k) (λ more k. condition_stays most right (suc n) more (omega arith) k) h)
+condition_stays most (settled answer) n rest small h = h
+condition_stays most (sure answer side) n rest small h = condition_stays most side n rest small h
+
+-- `else` and its branch, or nothing
+else_stays : (most : ℕ) (b : Body) (ts rest : List TokenKind) → StaysWithin most 0 rest → StaysWithin most 0 (ts ++ rest)
+    → StaysWithin most 0 (unless_empty b (token.Key key.Else ∷ ts) ++ rest)
+else_stays most done ts rest h k = h
+else_stays most (next statement others) ts rest h k = (omega arith, k)
+
+-- an `if` with its condition, its first branch, what stands before `endif`, and what follows
+choice_stays : (most : ℕ) (c : Condition) (us vs rest : List TokenKind) → condition_depth c ≤ most
+    → StaysWithin most 0 (us ++ (vs ++ token.Key key.Endif ∷ rest))
+    → StaysWithin most 0 ((token.Key key.If ∷ (condition_tokens c ++ token.Key key.Then ∷ (us ++ (vs ++ token.Key key.Endif ∷ [])))) ++ rest)
+choice_stays most c us vs rest small h =
+    let after = condition_stays most c 0 (token.Key key.Then ∷ (us ++ (vs ++ token.Key key.Endif ∷ rest))) (omega arith) (omega arith, h) in
+    (omega arith, simp append_assoc after)
+
+mutual
+  statement_stays : (most : ℕ) (s : Statement) (rest : List TokenKind) → suc (statement_operators s) ≤ most → StaysWithin most 0 rest
+      → StaysWithin most 0 (statement_tokens s ++ rest)
+  statement_stays most (assign name number) rest small h =
+      let d = depth_operators number 1 in
+      let line : StaysWithin most 0 (number_tokens number ++ token.Sign sign.Semicolon ∷ rest) =
+      number_stays most number 0 (token.Sign sign.Semicolon ∷ rest) (omega arith) (omega arith, h) in
+      (omega arith, (omega arith, regrouped most 0 (number_tokens number) (token.Sign sign.Semicolon ∷ []) rest line))
+  statement_stays most (pay leg number) rest small h =
+      let d = depth_operators number 0 in
+      let line : StaysWithin most 0 (number_tokens number ++ token.Sign sign.Semicolon ∷ rest) =
+      number_stays most number 0 (token.Sign sign.Semicolon ∷ rest) (omega arith) (omega arith, h) in
+      (omega arith, (omega arith, regrouped most 0 (number_tokens number) (token.Sign sign.Semicolon ∷ []) rest line))
+  statement_stays most (choose condition yes_part no_part) rest small h =
+      let d = condition_depth_operators condition 0 in
+      let last : StaysWithin most 0 (token.Key key.Endif ∷ rest) = (omega arith, h) in
+      let no = body_stays most no_part (token.Key key.Endif ∷ rest) (omega arith) last in
+      let yes = body_stays most yes_part _ (omega arith) (else_stays most no_part (body_tokens no_part) (token.Key key.Endif ∷ rest) last no) in
+      choice_stays most condition (body_tokens yes_part) (unless_empty no_part (token.Key key.Else ∷ body_tokens no_part)) rest (omega arith) yes
+  statement_stays most (group body) rest small h = body_stays most body rest small h
+
+  body_stays : (most : ℕ) (b : Body) (rest : List TokenKind) → suc (body_operators b) ≤ most → StaysWithin most 0 rest
+      → StaysWithin most 0 (body_tokens b ++ rest)
+  body_stays most done rest small h = h
+  body_stays most (next statement others) rest small h =
+      regrouped most 0 (statement_tokens statement) (body_tokens others) rest
+      (statement_stays most statement (body_tokens others ++ rest) (omega arith) (body_stays most others rest (omega arith) h))
 
 item_stays : (most : ℕ) (i : Item) (rest : List TokenKind) → suc (item_operators i) ≤ most → StaysWithin most 0 rest
     → StaysWithin most 0 (item_tokens i ++ rest)
