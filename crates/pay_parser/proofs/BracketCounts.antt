@@ -11,7 +11,7 @@ use Rattle.pay_meaning.specs.Language.{Item, plain, Script}
 use Rattle.pay_tree.specs.Text.{unless_empty}
 use Rattle.pay_parser.specs.Grammar.{sign_of}
 use Rattle.pay_parser.specs.TokenLimits.{is_open_bracket, is_closing_bracket}
-use Rattle.pay_parser.proofs.CanonicalTokens.{signed_tokens, binary_tokens, number_tokens, condition_tokens, statement_tokens, body_tokens, item_tokens}
+use Rattle.pay_parser.proofs.CanonicalTokens.{binary_tokens, number_tokens, condition_tokens, statement_tokens, body_tokens, item_tokens}
 use Rattle.pay_parser.proofs.CanonicalTokens.{script_tokens}
 use Rattle.pay_parser.proofs.OperatorCounts.{operators_on, condition_operators_on, statement_operators, body_operators, item_operators}
 use Rattle.pay_parser.proofs.OperatorCounts.{script_operators}
