@@ -11,14 +11,16 @@ use Rattle.pay_lexer.specs.declared.token.Sign.TheVariants as sign
 use Rattle.pay_lexer.specs.declared.token.TokenKind.{TokenKind}
 use Rattle.pay_lexer.specs.declared.token.TokenKind.TheVariants as token
 use Rattle.pay_meaning.specs.Language.{Operator, add, subtract, multiply, divide, least, greatest, Number, literal, variable, spot, period, days}
-use Rattle.pay_meaning.specs.Language.{negative, absolute, binary, Condition, compare, negation, conjunction, disjunction, settled, sure, Statement}
+use Rattle.pay_meaning.specs.Language.{negative, absolute, binary, bare, Condition, compare, negation, conjunction, disjunction, settled, sure, Statement}
 use Rattle.pay_meaning.specs.Language.{assign, pay, choose, group, Body, done, next, Item, plain, Script}
 use Rattle.pay_meaning.specs.Words.{IsName}
 use Rattle.pay_tree.specs.Text.{unless_empty}
 use Rattle.pay_parser.specs.Grammar.{sign_of, bracketed, SpellsNumber, one_term, plus, minus, one_factor, times, over, SpellsFactor, one_atom, minus_sign}
 use Rattle.pay_parser.specs.Grammar.{SpellsAtom, of_literal, of_variable, in_brackets, of_least, of_greatest, of_absolute, of_spot, of_period}
-use Rattle.pay_parser.specs.Grammar.{of_days, two, assignment, payment, SpellsStatement, ended, SpellsBody, no_statement, one_more, SpellsItem}
-use Rattle.pay_parser.specs.Grammar.{dated, SpellsScript, no_item, one_more_item}
+use Rattle.pay_parser.specs.Grammar.{of_days, two, SpellsCondition, one_conjunction, or_else, one_negation, and_also, SpellsNegation, not_sign}
+use Rattle.pay_parser.specs.Grammar.{two_numbers, condition_in_brackets, assignment, payment, SpellsStatement, simple_ended, choice, SpellsChoice}
+use Rattle.pay_parser.specs.Grammar.{without_else, with_else, SpellsBody, no_statement, one_more, SpellsItem, dated, SpellsScript, no_item}
+use Rattle.pay_parser.specs.Grammar.{one_more_item}
 
 -- what texts can write: each literal within the limit and not below zero, and each name a name
 abbrev pub IsWritten : Number → Type 0
@@ -146,11 +148,27 @@ factor_spelled (binary op left right) h = one_atom _ _ (binary_spelled op _ _ le
 number_spelled : (n : Number) → IsWritten n → SpellsNumber (number_tokens n) n
 number_spelled n h = number_of (number_tokens n) n (factor_spelled n h)
 
-statement_spelled : (s : Statement) → IsWrittenStatement s → SpellsStatement (statement_tokens s) s
-statement_spelled (assign name number) h =
-    ended (token.Word name ∷ token.Sign sign.Equals ∷ number_tokens number) _ (assignment name (number_tokens number) number h.0 (number_spelled number h.1))
-statement_spelled (pay leg number) h =
-    ended (token.Word leg ∷ token.Key key.Pays ∷ number_tokens number) _ (payment leg (number_tokens number) number h.0 (number_spelled number h.1))
+-- the tokens of a condition spell it, as one that `not` may stand before
+negation_spelled : (c : Condition) → IsWrittenCondition c → SpellsNegation (condition_tokens c) c
+negation_spelled (compare op left right bare) h = two_numbers op _ _ left right (number_spelled left h.0) (number_spelled right h.1)
+negation_spelled (negation side) h = not_sign _ _ (negation_spelled side h)
+negation_spelled (conjunction left right) h =
+    let first = one_negation _ _ (negation_spelled left h.0) in
+    condition_in_brackets _ _ (one_conjunction _ _ (and_also _ _ left right first (negation_spelled right h.1)))
+negation_spelled (disjunction left right) h =
+    let first = one_conjunction _ _ (one_negation _ _ (negation_spelled left h.0)) in
+    condition_in_brackets _ _ (or_else _ _ left right first (one_negation _ _ (negation_spelled right h.1)))
+negation_spelled (settled answer) h = absurd h
+negation_spelled (sure answer side) h = absurd h
+
+condition_spelled : (c : Condition) → IsWrittenCondition c → SpellsCondition (condition_tokens c) c
+condition_spelled c h = one_conjunction _ _ (one_negation _ _ (negation_spelled c h))
+
+-- where the second branch has no statements, no `else` stands
+choice_spelled : (c : Condition) (a b : Body) → SpellsCondition (condition_tokens c) c → SpellsBody (body_tokens a) a → SpellsBody (body_tokens b) b
+    → SpellsChoice (statement_tokens (choose c a b)) (choose c a b)
+choice_spelled c a done k l m = without_else (condition_tokens c) (body_tokens a) c a k l
+choice_spelled c a (next s rest) k l m = with_else (condition_tokens c) (body_tokens a) (body_tokens (next s rest)) c a (next s rest) k l m
 
 -- one statement more in front
 first_statement : (us : List TokenKind) (s : Statement) (ts : List TokenKind) (b : Body) → SpellsStatement us s → SpellsBody ts b
@@ -158,9 +176,21 @@ first_statement : (us : List TokenKind) (s : Statement) (ts : List TokenKind) (b
 first_statement us s _ _ k no_statement = rw append-nil (one_more [] us done s no_statement k)
 first_statement us s _ _ k (one_more ts vs b last l m) = rw (← append_assoc) (one_more (us ++ ts) vs (next s b) last (first_statement us s ts b k l) m)
 
-body_spelled : (b : Body) → IsWrittenBody b → SpellsBody (body_tokens b) b
-body_spelled done h = no_statement
-body_spelled (next statement rest) h = first_statement _ _ _ _ (statement_spelled statement h.0) (body_spelled rest h.1)
+mutual
+  statement_spelled : (s : Statement) → IsWrittenStatement s → SpellsStatement (statement_tokens s) s
+  statement_spelled (assign name number) h =
+      simple_ended (token.Word name ∷ token.Sign sign.Equals ∷ number_tokens number) _
+      (assignment name (number_tokens number) number h.0 (number_spelled number h.1))
+  statement_spelled (pay leg number) h =
+      simple_ended (token.Word leg ∷ token.Key key.Pays ∷ number_tokens number) _
+      (payment leg (number_tokens number) number h.0 (number_spelled number h.1))
+  statement_spelled (choose c a b) h =
+      choice _ _ (choice_spelled c a b (condition_spelled c h.0) (body_spelled a h.1) (body_spelled b h.2))
+  statement_spelled (group body) h = absurd h
+
+  body_spelled : (b : Body) → IsWrittenBody b → SpellsBody (body_tokens b) b
+  body_spelled done h = no_statement
+  body_spelled (next statement rest) h = first_statement _ _ _ _ (statement_spelled statement h.0) (body_spelled rest h.1)
 
 item_spelled : (i : Item) → IsWrittenItem i → SpellsItem (item_tokens i) i
 item_spelled (plain date body) h = dated date (body_tokens body) body (body_spelled body h.1)
