@@ -7,15 +7,18 @@ use Rattle.pay_fixed.specs.Grammar.{SpellsSign, no_sign, SpellsFraction, no_frac
 use Rattle.pay_fixed.specs.Grammar.SpellsSign.{plus as plus_before, minus as minus_before}
 use Rattle.pay_fixed.specs.Decimal.{decimal_of, decimal_text, sign_text, point_text}
 use Rattle.pay_fixed.proofs.Text.{text-spells, reads_back}
+use Rattle.pay_lexer.specs.declared.token.Key.TheVariants as key
 use Rattle.pay_lexer.specs.declared.token.Token.{Token}
 use Rattle.pay_lexer.specs.declared.token.TokenKind.{TokenKind}
 use Rattle.pay_lexer.specs.declared.token.TokenKind.TheVariants as token
 use Rattle.pay_meaning.specs.Language.{Operator, add, subtract, multiply, divide, least, greatest, Number, literal, variable, spot, period, days}
-use Rattle.pay_meaning.specs.Language.{negative, absolute, binary, Statement, assign, pay, Body, done, next, Item, plain, Script}
+use Rattle.pay_meaning.specs.Language.{negative, absolute, binary, Condition, compare, negation, conjunction, disjunction, settled, sure, Statement}
+use Rattle.pay_meaning.specs.Language.{assign, pay, choose, group, Body, done, next, Item, plain, Script}
 use Rattle.pay_meaning.specs.Words.{is_lower_word, is_keyword, is_name, IsName}
+use Rattle.pay_tree.specs.Text.{unless_empty}
 use Rattle.pay_parser.specs.TokenLimits.{kinds, is_too_large, first_too_large}
-use Rattle.pay_parser.proofs.CanonicalTokens.{IsWritten, IsWrittenStatement, IsWrittenBody, IsWrittenItem, IsWrittenScript, binary_tokens}
-use Rattle.pay_parser.proofs.CanonicalTokens.{number_tokens, statement_tokens, body_tokens, item_tokens, script_tokens}
+use Rattle.pay_parser.proofs.CanonicalTokens.{IsWritten, IsWrittenCondition, IsWrittenStatement, IsWrittenBody, IsWrittenItem, IsWrittenScript}
+use Rattle.pay_parser.proofs.CanonicalTokens.{binary_tokens, number_tokens, condition_tokens, statement_tokens, body_tokens, item_tokens, script_tokens}
 
 -- none of these tokens is too large
 abbrev NoneTooLarge : List TokenKind → Type 0
@@ -80,13 +83,32 @@ number_small (negative side) h = (refl, number_small side h)
 number_small (absolute side) h = (refl, (refl, none_in_row _ _ (number_small side h) (refl, tt)))
 number_small (binary op left right) h = binary_small op _ _ (number_small left h.0) (number_small right h.1)
 
-statement_small : (s : Statement) → IsWrittenStatement s → NoneTooLarge (statement_tokens s)
-statement_small (assign name number) h = (word_small name h.0, (refl, none_in_row _ _ (number_small number h.1) (refl, tt)))
-statement_small (pay leg number) h = (word_small leg h.0, (refl, none_in_row _ _ (number_small number h.1) (refl, tt)))
+condition_small : (c : Condition) → IsWrittenCondition c → NoneTooLarge (condition_tokens c)
+condition_small (compare op left right note) h = none_in_row _ _ (number_small left h.0) (refl, number_small right h.1)
+condition_small (negation side) h = (refl, condition_small side h)
+condition_small (conjunction left right) h =
+    (refl, none_in_row _ _ (none_in_row _ _ (condition_small left h.0) (refl, condition_small right h.1)) (refl, tt))
+condition_small (disjunction left right) h =
+    (refl, none_in_row _ _ (none_in_row _ _ (condition_small left h.0) (refl, condition_small right h.1)) (refl, tt))
+condition_small (settled answer) h = absurd h
+condition_small (sure answer side) h = absurd h
 
-body_small : (b : Body) → IsWrittenBody b → NoneTooLarge (body_tokens b)
-body_small done h = tt
-body_small (next statement rest) h = none_in_row _ _ (statement_small statement h.0) (body_small rest h.1)
+else_small : (b : Body) → NoneTooLarge (body_tokens b) → NoneTooLarge (unless_empty b (token.Key key.Else ∷ body_tokens b))
+else_small done h = tt
+else_small (next statement rest) h = (refl, h)
+
+mutual
+  statement_small : (s : Statement) → IsWrittenStatement s → NoneTooLarge (statement_tokens s)
+  statement_small (assign name number) h = (word_small name h.0, (refl, none_in_row _ _ (number_small number h.1) (refl, tt)))
+  statement_small (pay leg number) h = (word_small leg h.0, (refl, none_in_row _ _ (number_small number h.1) (refl, tt)))
+  statement_small (choose c a b) h =
+      (refl, none_in_row _ _ (condition_small c h.0)
+      (refl, none_in_row _ _ (body_small a h.1) (none_in_row _ _ (else_small b (body_small b h.2)) (refl, tt))))
+  statement_small (group body) h = absurd h
+
+  body_small : (b : Body) → IsWrittenBody b → NoneTooLarge (body_tokens b)
+  body_small done h = tt
+  body_small (next statement rest) h = none_in_row _ _ (statement_small statement h.0) (body_small rest h.1)
 
 item_small : (i : Item) → IsWrittenItem i → NoneTooLarge (item_tokens i)
 item_small (plain date body) h = (refl, body_small body h.1)

@@ -10,13 +10,15 @@ use Rattle.pay_lexer.specs.Forms.{IsNumber, whole, with_point}
 use Rattle.pay_lexer.specs.declared.token.TokenKind.{TokenKind}
 use Rattle.pay_lexer.proofs.FrontLemmas.{digits-first}
 use Rattle.pay_lexer.proofs.TokenForms.{HaveForms, forms_front, forms_back}
-use Rattle.pay_meaning.specs.Language.{Operator, Number, Statement, Body, done, next, and_then, Item, Script}
+use Rattle.pay_meaning.specs.Language.{Operator, Number, Condition, Statement, Body, done, next, and_then, Item, Script}
 use Rattle.pay_meaning.specs.Words.{is_digit}
 use Rattle.pay_parser.specs.Grammar.{SpellsNumber, one_term, plus, minus, SpellsTerm, one_factor, times, over, SpellsFactor, one_atom, minus_sign}
 use Rattle.pay_parser.specs.Grammar.{SpellsAtom, of_literal, of_variable, in_brackets, of_least, of_greatest, of_absolute, of_spot, of_period}
-use Rattle.pay_parser.specs.Grammar.{of_days, SpellsArguments, two, one_more_number, SpellsSimple, assignment, payment, SpellsStatement, bare}
-use Rattle.pay_parser.specs.Grammar.{ended, SpellsBody, no_statement, one_more, SpellsItem, dated, SpellsScript, no_item, one_more_item}
-use Rattle.pay_parser.proofs.CanonicalTokens.{IsWritten, IsWrittenStatement, IsWrittenBody, IsWrittenItem, IsWrittenScript}
+use Rattle.pay_parser.specs.Grammar.{of_days, SpellsArguments, two, one_more_number, SpellsCondition, one_conjunction, or_else, SpellsConjunction}
+use Rattle.pay_parser.specs.Grammar.{one_negation, and_also, SpellsNegation, not_sign, two_numbers, condition_in_brackets, SpellsSimple, assignment}
+use Rattle.pay_parser.specs.Grammar.{payment, SpellsStatement, simple, simple_ended, choice, choice_ended, SpellsChoice, without_else, with_else}
+use Rattle.pay_parser.specs.Grammar.{SpellsBody, no_statement, one_more, SpellsItem, dated, SpellsScript, no_item, one_more_item}
+use Rattle.pay_parser.proofs.CanonicalTokens.{IsWritten, IsWrittenCondition, IsWrittenStatement, IsWrittenBody, IsWrittenItem, IsWrittenScript}
 
 -- the digits of a number begin with a digit
 first_digit : (digits : List ℕ) → IsNumber digits → (d : ℕ) × (ds : List ℕ) × (digits ≡ d ∷ ds) × (is_digit d ≡ true)
@@ -77,21 +79,48 @@ mutual
   arguments_written _ _ _ (two op ts us a b k l) h = (number_written ts a k (forms_front ts _ h), number_written us b l (forms_back ts _ h).1)
   arguments_written _ _ _ (one_more_number op ts us a b k l) h = (arguments_written op ts a k (forms_front ts _ h), number_written us b l (forms_back ts _ h).1)
 
+mutual
+  condition_written : (ts : List TokenKind) (c : Condition) → SpellsCondition ts c → HaveForms ts → IsWrittenCondition c
+  condition_written _ _ (one_conjunction ts c k) h = conjunction_written ts c k h
+  condition_written _ _ (or_else ts us a b k l) h = (condition_written ts a k (forms_front ts _ h), conjunction_written us b l (forms_back ts _ h).1)
+
+  conjunction_written : (ts : List TokenKind) (c : Condition) → SpellsConjunction ts c → HaveForms ts → IsWrittenCondition c
+  conjunction_written _ _ (one_negation ts c k) h = negation_written ts c k h
+  conjunction_written _ _ (and_also ts us a b k l) h = (conjunction_written ts a k (forms_front ts _ h), negation_written us b l (forms_back ts _ h).1)
+
+  negation_written : (ts : List TokenKind) (c : Condition) → SpellsNegation ts c → HaveForms ts → IsWrittenCondition c
+  negation_written _ _ (not_sign ts c k) h = negation_written ts c k h.1
+  negation_written _ _ (two_numbers op ts us a b k l) h = (number_written ts a k (forms_front ts _ h), number_written us b l (forms_back ts _ h).1)
+  negation_written _ _ (condition_in_brackets ts c k) h = condition_written ts c k (forms_front ts _ h.1)
+
 simple_written : (ts : List TokenKind) (s : Statement) → SpellsSimple ts s → HaveForms ts → IsWrittenStatement s
 simple_written _ _ (assignment name ts n k l) h = (k, number_written ts n l h.1.1)
 simple_written _ _ (payment leg ts n k l) h = (k, number_written ts n l h.1.1)
-
-statement_written : (ts : List TokenKind) (s : Statement) → SpellsStatement ts s → HaveForms ts → IsWrittenStatement s
-statement_written _ _ (bare ts s k) h = simple_written ts s k h
-statement_written _ _ (ended ts s k) h = simple_written ts s k (forms_front ts _ h)
 
 one_more_written : (b : Body) (s : Statement) → IsWrittenBody b → IsWrittenStatement s → IsWrittenBody (and_then b s)
 one_more_written done s h k = (k, tt)
 one_more_written (next first rest) s h k = (h.0, one_more_written rest s h.1 k)
 
-body_written : (ts : List TokenKind) (b : Body) → SpellsBody ts b → HaveForms ts → IsWrittenBody b
-body_written _ _ no_statement h = tt
-body_written _ _ (one_more ts us b s k l) h = one_more_written b s (body_written ts b k (forms_front ts us h)) (statement_written us s l (forms_back ts us h))
+mutual
+  statement_written : (ts : List TokenKind) (s : Statement) → SpellsStatement ts s → HaveForms ts → IsWrittenStatement s
+  statement_written _ _ (simple ts s k) h = simple_written ts s k h
+  statement_written _ _ (simple_ended ts s k) h = simple_written ts s k (forms_front ts _ h)
+  statement_written _ _ (choice ts s k) h = choice_written ts s k h
+  statement_written _ _ (choice_ended ts s k) h = choice_written ts s k (forms_front ts _ h)
+
+  choice_written : (ts : List TokenKind) (s : Statement) → SpellsChoice ts s → HaveForms ts → IsWrittenStatement s
+  choice_written _ _ (without_else ts us c a k l) h =
+      let after_then = (forms_back ts _ h.1).1 in
+      (condition_written ts c k (forms_front ts _ h.1), body_written us a l (forms_front us _ after_then), tt)
+  choice_written _ _ (with_else ts us vs c a b k l m) h =
+      let after_then = (forms_back ts _ h.1).1 in
+      let after_else = (forms_back us _ after_then).1 in
+      (condition_written ts c k (forms_front ts _ h.1), body_written us a l (forms_front us _ after_then), body_written vs b m (forms_front vs _ after_else))
+
+  body_written : (ts : List TokenKind) (b : Body) → SpellsBody ts b → HaveForms ts → IsWrittenBody b
+  body_written _ _ no_statement h = tt
+  body_written _ _ (one_more ts us b s k l) h =
+      one_more_written b s (body_written ts b k (forms_front ts us h)) (statement_written us s l (forms_back ts us h))
 
 item_written : (ts : List TokenKind) (i : Item) → SpellsItem ts i → HaveForms ts → IsWrittenItem i
 item_written _ _ (dated date ts b k) h = (h.0, body_written ts b k h.1)
