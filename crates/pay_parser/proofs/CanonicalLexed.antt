@@ -22,12 +22,16 @@ use Rattle.pay_lexer.specs.Lexing.{kinds_after, kinds_in}
 use Rattle.pay_lexer.proofs.TextPieces.{Apart, Ends, Ended, alone, nothing, then_apart, then_ended, ended_then, name_read, number_read, date_read}
 use Rattle.pay_meaning.proofs.EventLaws.{lt-cases}
 use Rattle.pay_meaning.specs.Language.{Operator, add, subtract, multiply, divide, least, greatest, Number, literal, variable, spot, period, days}
-use Rattle.pay_meaning.specs.Language.{negative, absolute, binary, Statement, assign, pay, Body, done, next, Item, plain, Script}
+use Rattle.pay_meaning.specs.Language.{negative, absolute, binary, Comparison, less, at_most, greater, at_least, equals, differs, Condition}
+use Rattle.pay_meaning.specs.Language.{compare, negation, conjunction, disjunction, settled, sure, Statement, assign, pay, choose, group, Body}
+use Rattle.pay_meaning.specs.Language.{done, next, Item, plain, Script}
 use Rattle.pay_meaning.specs.Words.{is_digit}
-use Rattle.pay_tree.specs.Text.{opening, between, number_text, statement_text, body_text, item_indent, date_line, item_text, script_text}
-use Rattle.pay_parser.specs.Grammar.{bracketed}
-use Rattle.pay_parser.proofs.CanonicalTokens.{IsWritten, IsWrittenStatement, IsWrittenBody, IsWrittenItem, IsWrittenScript, binary_tokens}
-use Rattle.pay_parser.proofs.CanonicalTokens.{number_tokens, statement_tokens, body_tokens, item_tokens, script_tokens}
+use Rattle.pay_tree.specs.Text.{opening, between, number_text, comparing, condition_text, if_line, word_line, deeper, unless_empty, statement_text}
+use Rattle.pay_tree.specs.Text.{body_text, item_indent, date_line, item_text, script_text}
+use Rattle.pay_parser.specs.Grammar.{sign_of, bracketed}
+use Rattle.pay_parser.proofs.CanonicalTokens.{IsWritten, IsWrittenCondition, IsWrittenStatement, IsWrittenBody, IsWrittenItem, IsWrittenScript}
+use Rattle.pay_parser.proofs.CanonicalTokens.{signed_tokens, binary_tokens, number_tokens, condition_tokens, statement_tokens, body_tokens, item_tokens}
+use Rattle.pay_parser.proofs.CanonicalTokens.{script_tokens}
 
 -- the bytes that follow names and numbers in the canonical text
 blank_ends : Ends 32
@@ -181,19 +185,135 @@ pays_read : Apart (codes " pays ") (token.Key key.Pays ∷ [])
 unfolding key_of
 pays_read = record { reads = λ rest us e. rw e refl }
 
--- the line of a statement gives its tokens, after an indent that gives none
-statement_read : (indent : List ℕ) (s : Statement) → Apart indent [] → IsWrittenStatement s → Apart (statement_text indent s) (statement_tokens s)
-statement_read indent (assign name number) blank h =
-    then_apart blank (ended_then 32 (name_read name h.0) blank_ends (then_apart equals_read (ended_line number h.1)))
-statement_read indent (pay leg number) blank h =
-    then_apart blank (ended_then 32 (name_read leg h.0) blank_ends (then_apart pays_read (ended_line number h.1)))
+open_read : Apart (codes "(") (token.Sign sign.ParenLeft ∷ [])
+open_read = record { reads = λ rest us e. rw e refl }
 
-body_read : (indent : List ℕ) (b : Body) → Apart indent [] → IsWrittenBody b → Apart (body_text indent b) (body_tokens b)
-body_read indent done blank h = nothing
-body_read indent (next statement rest) blank h = then_apart (statement_read indent statement blank h.0) (body_read indent rest blank h.1)
+not_read : Apart (codes "not ") (token.Key key.Not ∷ [])
+unfolding key_of
+not_read = record { reads = λ rest us e. rw e refl }
+
+and_read : Apart (codes " and ") (token.Key key.And ∷ [])
+unfolding key_of
+and_read = record { reads = λ rest us e. rw e refl }
+
+or_read : Apart (codes " or ") (token.Key key.Or ∷ [])
+unfolding key_of
+or_read = record { reads = λ rest us e. rw e refl }
+
+comparing_piece : (op : Comparison) → Apart (comparing op) (token.Sign (sign_of op) ∷ [])
+comparing_piece less = record { reads = λ rest us e. rw e refl }
+comparing_piece at_most = record { reads = λ rest us e. rw e refl }
+comparing_piece greater = record { reads = λ rest us e. rw e refl }
+comparing_piece at_least = record { reads = λ rest us e. rw e refl }
+comparing_piece equals = record { reads = λ rest us e. rw e refl }
+comparing_piece differs = record { reads = λ rest us e. rw e refl }
+
+-- a piece, and then another, which both end before a byte that ends words and numbers
+ended_on : {text more : List ℕ} {ks ls : List TokenKind} → (byte : ℕ) → Ended text ks → Ends byte → Ended (byte ∷ more) ls
+    → Ended (text ++ byte ∷ more) (ks ++ ls)
+ended_on {text} {more} {ks} {ls} byte a ends b = record {
+  reads = λ after rest us last e.
+      rw (append_assoc text (byte ∷ more) (after ∷ rest), append_assoc ks ls us)
+      (a.reads byte (more ++ after ∷ rest) (ls ++ us) ends (b.reads after rest us last e));
+}
+
+-- two numbers with the sign of a comparison between them
+comparing_read : (op : Comparison) (text more : List ℕ) (ks ls : List TokenKind) → Ended text ks → Ended more ls
+    → Ended (text ++ (comparing op ++ more)) (ks ++ token.Sign (sign_of op) ∷ ls)
+comparing_read less text more ks ls a b = ended_on 32 a blank_ends (then_ended (comparing_piece less) b)
+comparing_read at_most text more ks ls a b = ended_on 32 a blank_ends (then_ended (comparing_piece at_most) b)
+comparing_read greater text more ks ls a b = ended_on 32 a blank_ends (then_ended (comparing_piece greater) b)
+comparing_read at_least text more ks ls a b = ended_on 32 a blank_ends (then_ended (comparing_piece at_least) b)
+comparing_read equals text more ks ls a b = ended_on 32 a blank_ends (then_ended (comparing_piece equals) b)
+comparing_read differs text more ks ls a b = ended_on 32 a blank_ends (then_ended (comparing_piece differs) b)
+
+-- the same tokens with other brackets round their parts
+signed_tokens_are : (ts us : List TokenKind) (t : TokenKind)
+    → token.Sign sign.ParenLeft ∷ (ts ++ t ∷ (us ++ token.Sign sign.ParenRight ∷ [])) ≡ signed_tokens ts t us
+signed_tokens_are ts us t = rw append_assoc refl
+
+-- two conditions in brackets, with a word between them that begins with a blank
+joined_read : (text word more : List ℕ) (ks ls : List TokenKind) (t : TokenKind) → Ended text ks → Apart (32 ∷ word) (t ∷ []) → Ended more ls
+    → Apart (codes "(" ++ (text ++ ((32 ∷ word) ++ (more ++ codes ")")))) (signed_tokens ks t ls)
+joined_read text word more ks ls t a joint b =
+    subst (Apart (codes "(" ++ (text ++ ((32 ∷ word) ++ (more ++ codes ")"))))) (signed_tokens_are ks ls t)
+    (then_apart open_read (ended_then 32 a blank_ends (then_apart joint (closed_read more ls b))))
+
+-- the text of a condition gives its tokens
+condition_ended : (c : Condition) → IsWrittenCondition c → Ended (condition_text c) (condition_tokens c)
+condition_ended (compare op left right note) h =
+    comparing_read op (number_text left) (number_text right) (number_tokens left) (number_tokens right) (number_ended left h.0) (number_ended right h.1)
+condition_ended (negation side) h = then_ended not_read (condition_ended side h)
+condition_ended (conjunction left right) h =
+    alone (joined_read (condition_text left) (codes "and ") (condition_text right) (condition_tokens left) (condition_tokens right) (token.Key key.And)
+    (condition_ended left h.0) and_read (condition_ended right h.1))
+condition_ended (disjunction left right) h =
+    alone (joined_read (condition_text left) (codes "or ") (condition_text right) (condition_tokens left) (condition_tokens right) (token.Key key.Or)
+    (condition_ended left h.0) or_read (condition_ended right h.1))
+condition_ended (settled answer) h = absurd h
+condition_ended (sure answer side) h = absurd h
+
+if_read : Apart (codes "if ") (token.Key key.If ∷ [])
+unfolding key_of
+if_read = record { reads = λ rest us e. rw e refl }
+
+then_read : Apart (codes " then\n") (token.Key key.Then ∷ [])
+unfolding key_of
+then_read = record { reads = λ rest us e. rw e refl }
+
+else_word_read : Apart (codes "else\n") (token.Key key.Else ∷ [])
+unfolding key_of
+else_word_read = record { reads = λ rest us e. rw e refl }
+
+endif_read : Apart (codes "endif\n") (token.Key key.Endif ∷ [])
+unfolding key_of
+endif_read = record { reads = λ rest us e. rw e refl }
 
 item_indent_read : Apart item_indent []
 item_indent_read = record { reads = λ rest us e. rw e refl }
+
+-- the indent of a branch gives no token where the one before it gives none
+deeper_read : (indent : List ℕ) → Apart indent [] → Apart (deeper indent) []
+deeper_read indent blank = then_apart blank item_indent_read
+
+if_line_read : (indent : List ℕ) (c : Condition) → Apart indent [] → IsWrittenCondition c
+    → Apart (if_line indent c) (token.Key key.If ∷ (condition_tokens c ++ token.Key key.Then ∷ []))
+if_line_read indent c blank h = then_apart blank (then_apart if_read (ended_then 32 (condition_ended c h) blank_ends then_read))
+
+-- the lines of the second branch give its tokens, and none where it has no statements
+else_read : (indent : List ℕ) (b : Body) → Apart indent [] → Apart (body_text (deeper indent) b) (body_tokens b)
+    → Apart (unless_empty b (word_line indent (codes "else") ++ body_text (deeper indent) b)) (unless_empty b (token.Key key.Else ∷ body_tokens b))
+else_read indent done blank k = nothing
+else_read indent (next statement rest) blank k = then_apart (then_apart blank else_word_read) k
+
+-- the tokens of the line of an `if` before others
+if_tokens_are : (ks ls : List TokenKind) → (token.Key key.If ∷ (ks ++ token.Key key.Then ∷ [])) ++ ls ≡ token.Key key.If ∷ (ks ++ token.Key key.Then ∷ ls)
+if_tokens_are ks ls = rw append_assoc refl
+
+choice_read : (indent : List ℕ) (c : Condition) (a b : Body) → Apart indent [] → IsWrittenCondition c
+    → Apart (body_text (deeper indent) a) (body_tokens a) → Apart (body_text (deeper indent) b) (body_tokens b)
+    → Apart (statement_text indent (choose c a b)) (statement_tokens (choose c a b))
+choice_read indent c a b blank h k l =
+    let others = then_apart k (then_apart (else_read indent b blank l) (then_apart blank endif_read)) in
+    subst (Apart (statement_text indent (choose c a b)))
+    (if_tokens_are (condition_tokens c) (body_tokens a ++ (unless_empty b (token.Key key.Else ∷ body_tokens b) ++ token.Key key.Endif ∷ [])))
+    (then_apart (if_line_read indent c blank h) others)
+
+mutual
+  -- the lines of a statement give its tokens, after an indent that gives none
+  statement_read : (indent : List ℕ) (s : Statement) → Apart indent [] → IsWrittenStatement s → Apart (statement_text indent s) (statement_tokens s)
+  statement_read indent (assign name number) blank h =
+      then_apart blank (ended_then 32 (name_read name h.0) blank_ends (then_apart equals_read (ended_line number h.1)))
+  statement_read indent (pay leg number) blank h =
+      then_apart blank (ended_then 32 (name_read leg h.0) blank_ends (then_apart pays_read (ended_line number h.1)))
+  statement_read indent (choose c a b) blank h =
+      let further = deeper_read indent blank in
+      choice_read indent c a b blank h.0 (body_read (deeper indent) a further h.1) (body_read (deeper indent) b further h.2)
+  statement_read indent (group body) blank h = absurd h
+
+  body_read : (indent : List ℕ) (b : Body) → Apart indent [] → IsWrittenBody b → Apart (body_text indent b) (body_tokens b)
+  body_read indent done blank h = nothing
+  body_read indent (next statement rest) blank h = then_apart (statement_read indent statement blank h.0) (body_read indent rest blank h.1)
 
 line_feed_read : Apart (codes "\n") []
 line_feed_read = record { reads = λ rest us e. rw e refl }
