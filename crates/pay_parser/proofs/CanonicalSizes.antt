@@ -102,8 +102,8 @@ mutual
   statement_small (assign name number) h = (word_small name h.0, (refl, none_in_row _ _ (number_small number h.1) (refl, tt)))
   statement_small (pay leg number) h = (word_small leg h.0, (refl, none_in_row _ _ (number_small number h.1) (refl, tt)))
   statement_small (choose c a b) h =
-      (refl, none_in_row _ _ (condition_small c h.0)
-      (refl, none_in_row _ _ (body_small a h.1) (none_in_row _ _ (else_small b (body_small b h.2)) (refl, tt))))
+      let others = none_in_row _ (token.Key key.Endif ∷ []) (else_small b (body_small b h.2)) (refl, tt) in
+      (refl, none_in_row _ _ (condition_small c h.0) (refl, none_in_row _ _ (body_small a h.1) others))
   statement_small (group body) h = absurd h
 
   body_small : (b : Body) → IsWrittenBody b → NoneTooLarge (body_tokens b)
