@@ -1,6 +1,6 @@
 //! Laws of the meaning and of events in order. Each function is empty: what it ensures is the law.
 
-ghost use Rattle.pay_meaning.specs.Laws.{MeaningOfParts, MeaningReadsOwnDates, OrderIsUnique, SharedDateIsEarliest};
+ghost use Rattle.pay_meaning.specs.Laws.{MeaningOfParts, MeaningReadsOwnDates, EffectReadsOwnVariables, OrderIsUnique, SharedDateIsEarliest};
 
 /// The meaning of a list of events is that of its front, and then that of the rest from the front's last variables.
 pub fn meaning_of_parts()
@@ -10,6 +10,11 @@ pub fn meaning_of_parts()
 /// A meaning reads the fixings at its events' dates alone.
 pub fn meaning_reads_own_dates()
     ensures { MeaningReadsOwnDates }
+{}
+
+/// An effect reads no more than its moment and the variables that its statements name, and changes no others.
+pub fn effect_reads_own_variables()
+    ensures { EffectReadsOwnVariables }
 {}
 
 /// Events in order rise by date and are at each date those of the list, in its order; and there is one such order.
