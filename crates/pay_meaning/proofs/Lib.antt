@@ -1,3 +1,4 @@
 pub mod MeaningLaws
 pub mod VariableLaws
+pub mod ConditionLaws
 pub mod EventLaws

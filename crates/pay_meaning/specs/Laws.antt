@@ -1,10 +1,13 @@
 -- Laws that show that the definitions are the ones meant.
-use Rattle.std.specs.Prelude.{◌≡◌, ℕ, List, [], ◌∷◌, ◌++◌, Some, None, ℤ, ◌≤ℤ◌, Result, Ok, Err, IfOk}
+use Rattle.std.specs.Prelude.{◌≡◌, ℕ, true, false, List, [], ◌∷◌, ◌++◌, Some, None, ℤ, ◌≤ℤ◌, ◌<ℤ◌, Result, Ok, Err, IfOk}
+use Rattle.std.specs.Bool.{Decides}
 use Rattle.pay_dates.specs.declared.day.Day.{Day}
-use Rattle.pay_meaning.specs.Language.{Event, Body}
+use Rattle.pay_meaning.specs.Language.{Event, Body, Statement, choose, and_then, Comparison, less, at_most, greater, at_least, equals, differs}
+use Rattle.pay_meaning.specs.Language.{Condition, negation, conjunction, disjunction}
 use Rattle.pay_meaning.specs.Parts.{as_variable, body_parts, names_in}
 use Rattle.pay_meaning.specs.declared.fault.FaultKind.{FaultKind}
-use Rattle.pay_meaning.specs.Meaning.{Variables, Fixings, fixing_at, Payment, Meaning, End, finished, faulted, meaning_by, EventRun, after_earlier, Moment, Effect, effect, lookup}
+use Rattle.pay_meaning.specs.Meaning.{Variables, Fixings, fixing_at, Payment, Meaning, End, finished, faulted, meaning_by, EventRun, after_earlier}
+use Rattle.pay_meaning.specs.Meaning.{Moment, Effect, effect, lookup, compared, truth, effect_of, followed_by}
 use Rattle.pay_meaning.specs.Events.{number_of, events_at, in_order, shared_date, IsEarliestShared, IsShared}
 
 -- a meaning, and then the rest from its last variables; what faulted has no rest
@@ -51,9 +54,54 @@ variables_in body = names_in as_variable (body_parts body)
 
 -- an effect reads no more than its moment and the variables that its statements name, and changes no others
 pub record EffectReadsOwnVariables : Type 0 where
-  pub reads : (body : Body) (a b : Variables) (at : Moment) → AgreeAt (variables_in body) a b → AreAlike (variables_in body) (effect body a at) (effect body b at)
+  pub reads : (body : Body) (a b : Variables) (at : Moment) → AgreeAt (variables_in body) a b
+      → AreAlike (variables_in body) (effect body a at) (effect body b at)
   pub others : (body : Body) (variables : Variables) (at : Moment) (name : List ℕ) → IsNoneOf (variables_in body) name
       → IfOk (effect body variables at) (λ after. lookup after.variables name ≡ lookup variables name)
+
+-- what a comparison says of two raws
+abbrev pub Says : Comparison → ℤ → ℤ → Type 0
+Says less a b = a <ℤ b
+Says at_most a b = a ≤ℤ b
+Says greater a b = b <ℤ a
+Says at_least a b = b ≤ℤ a
+Says equals a b = a ≡ b
+Says differs a b = ¬ (a ≡ b)
+
+-- a comparison is true of two raws exactly where what it says holds
+abbrev pub ComparisonIsTrueWhereItHolds : Type 0
+ComparisonIsTrueWhereItHolds = (op : Comparison) (a b : ℤ) → Decides (compared op a b) (Says op a b)
+
+-- `and` and `or` skip the right side, whatever fault it has, where the left one settles them, and else have its truth or fault; and `not` of one
+-- of them is the other one of the two sides under `not`, with the same fault
+pub record TruthOfSides : Type 0 where
+  pub and_skips : (left right : Condition) (variables : Variables) (at : Moment)
+      → truth left variables at ≡ Ok false → truth (conjunction left right) variables at ≡ Ok false
+  pub and_goes_on : (left right : Condition) (variables : Variables) (at : Moment)
+      → truth left variables at ≡ Ok true → truth (conjunction left right) variables at ≡ truth right variables at
+  pub or_skips : (left right : Condition) (variables : Variables) (at : Moment)
+      → truth left variables at ≡ Ok true → truth (disjunction left right) variables at ≡ Ok true
+  pub or_goes_on : (left right : Condition) (variables : Variables) (at : Moment)
+      → truth left variables at ≡ Ok false → truth (disjunction left right) variables at ≡ truth right variables at
+  pub not_and : (left right : Condition) (variables : Variables) (at : Moment)
+      → truth (negation (conjunction left right)) variables at ≡ truth (disjunction (negation left) (negation right)) variables at
+  pub not_or : (left right : Condition) (variables : Variables) (at : Moment)
+      → truth (negation (disjunction left right)) variables at ≡ truth (conjunction (negation left) (negation right)) variables at
+  pub not_not : (side : Condition) (variables : Variables) (at : Moment) → truth (negation (negation side)) variables at ≡ truth side variables at
+
+-- an `if` is the branch that its condition chooses, and the other branch does not matter; a condition that faults is the fault of the `if`
+pub record ChoiceIsOneBranch : Type 0 where
+  pub chosen_yes : (condition : Condition) (yes_part no_part : Body) (variables : Variables) (at : Moment)
+      → truth condition variables at ≡ Ok true → effect_of (choose condition yes_part no_part) variables at ≡ effect yes_part variables at
+  pub chosen_no : (condition : Condition) (yes_part no_part : Body) (variables : Variables) (at : Moment)
+      → truth condition variables at ≡ Ok false → effect_of (choose condition yes_part no_part) variables at ≡ effect no_part variables at
+  pub neither : (condition : Condition) (yes_part no_part : Body) (variables : Variables) (at : Moment) (fault : FaultKind)
+      → truth condition variables at ≡ Err fault → effect_of (choose condition yes_part no_part) variables at ≡ Err fault
+
+-- one statement more after others follows from the variables that they leave
+abbrev pub LastStatementFollows : Type 0
+LastStatementFollows = (body : Body) (last : Statement) (variables : Variables) (at : Moment)
+    → effect (and_then body last) variables at ≡ followed_by (effect body variables at) (λ after. effect_of last after at)
 
 -- each of these events is on the date of this number or a later one
 abbrev pub AreFrom : ℤ → List Event → Type 0
