@@ -24,4 +24,5 @@ pub mod Fetches
 pub mod Cells
 pub mod Assigned
 pub mod RunViews
+pub mod Wants
 pub mod Outcomes

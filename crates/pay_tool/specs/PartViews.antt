@@ -1,7 +1,7 @@
 -- The parts of a tree as the parts of a script.
 use Rattle.pay_meaning.specs.Parts as meant
-use Rattle.pay_meaning.specs.Parts.{a_number, a_statement, as_variable, as_leg}
-use Rattle.pay_tree.specs.Views.{number, statement}
+use Rattle.pay_meaning.specs.Parts.{a_number, a_condition, a_statement, as_variable, as_leg}
+use Rattle.pay_tree.specs.Views.{number, condition, statement}
 use Rattle.pay_tool.specs.declared.parts.Part.{Part}
 use Rattle.pay_tool.specs.declared.parts.Part.TheVariants as tree
 use Rattle.pay_tool.specs.declared.parts.Role.{Role}
@@ -9,6 +9,7 @@ use Rattle.pay_tool.specs.declared.parts.Role.TheVariants.{Variable, Leg}
 
 abbrev pub part : Part → meant.Part
 part (tree.Number expression) = a_number (number expression.now)
+part (tree.Condition one) = a_condition (condition one.now)
 part (tree.Statement one) = a_statement (statement one.now)
 
 abbrev pub role : Role → meant.Role

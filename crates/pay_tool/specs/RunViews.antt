@@ -3,7 +3,7 @@ use Rattle.std.specs.Prelude.{◌≡◌, List, ◌++◌, map, Result, Ok, Err}
 use Rattle.pay_meaning.specs.Meaning.{Variables, Effect}
 use Rattle.pay_meaning.specs.Meaning as meant
 use Rattle.pay_meaning.specs.declared.fault.FaultKind.{FaultKind}
-use Rattle.pay_tool.specs.declared.walker.Moment.{Moment}
+use Rattle.pay_tool.specs.declared.value.Moment.{Moment}
 use Rattle.pay_tool.specs.declared.walker.Payment.{Payment}
 use Rattle.pay_tool.specs.declared.walker.Stop.{Stop}
 use Rattle.pay_tool.specs.declared.walker.Stop.TheVariants.{Fault, NoMemory}

@@ -10,8 +10,9 @@ ghost use Rattle.pay_tool.specs.Tables.{are_distinct};
 
 use crate::columns::{cell_in, columns_of_events};
 use crate::outcome::{End, Outcome};
+use crate::value::Moment;
 use crate::variables::Variables;
-use crate::walker::{Moment, Payment, Stop, run_statements};
+use crate::walker::{Payment, Stop, run_statements};
 use pay_dates::Day;
 use pay_fixed::{Fixed, NoMemory};
 use pay_meaning::FaultKind;

@@ -42,6 +42,7 @@ mod script;
 pub mod table_laws;
 mod table_reader;
 mod tool;
+mod value;
 mod variables;
 mod walker;
 

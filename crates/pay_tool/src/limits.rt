@@ -17,7 +17,7 @@ use std::alloc::Global;
 /// The most events.
 pub const MOST_EVENTS: u32 = 4_096;
 
-/// The most nodes: numbers and statements.
+/// The most nodes: numbers, conditions and statements.
 pub const MOST_NODES: u32 = 262_144;
 
 /// The most payments.
@@ -32,7 +32,7 @@ pub const MOST_LEGS: u32 = 256;
 /// What is counted of a script's parts.
 #[derive(Clone, Copy)]
 pub struct Counts {
-    /// All parts: numbers and statements.
+    /// All parts: numbers, conditions and statements.
     pub nodes: usize,
     /// Payments.
     pub payments: usize,

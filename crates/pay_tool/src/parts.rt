@@ -1,21 +1,23 @@
-//! The parts of a script in the order of the text: its statements, and the numbers in them.
+//! The parts of a script in the order of the text: its statements, and the conditions and the numbers in them.
 
 ghost use Rattle.std.specs.Prelude.{◌≡◌, ◌∷◌, [], ◌++◌, IfOk, OnOk, map};
 ghost use Rattle.std.specs.Option.{option_map};
 ghost use Rattle.pay_meaning.specs.Parts.{a_number, as_variable, as_leg, is_payment, name_in};
-ghost use Rattle.pay_meaning.specs.Parts.{number_parts, statement_parts, body_parts, item_parts, script_parts};
+ghost use Rattle.pay_meaning.specs.Parts.{number_parts, condition_parts, statement_parts, body_parts, item_parts, script_parts};
 ghost use Rattle.pay_tree.specs.Views as view;
 ghost use Rattle.pay_tool.specs.PartViews.{part, role};
 
 use pay_fixed::NoMemory;
-use pay_tree::{Expr, Item, Name, Script, Stmt};
+use pay_tree::{Cond, Expr, Item, Name, Script, Stmt};
 use std::alloc::Global;
 
 /// A part of a script.
 #[derive(Clone, Copy)]
 pub enum Part<'a> {
-    /// A number of a statement.
+    /// A number of a statement or of a condition.
     Number(&'a Expr),
+    /// A condition of a statement.
+    Condition(&'a Cond),
     /// A statement.
     Statement(&'a Stmt),
 }
@@ -36,7 +38,7 @@ impl<'a> Part<'a> {
     {
         match self {
             Part::Statement(Stmt::Pay { .. }) => true,
-            Part::Statement(_) | Part::Number(_) => false,
+            Part::Statement(_) | Part::Condition(_) | Part::Number(_) => false,
         }
     }
 
@@ -56,9 +58,10 @@ impl<'a> Part<'a> {
     {
         match self {
             Part::Number(number) => variable_of(number),
+            Part::Condition(_) => None,
             Part::Statement(statement) => match statement {
                 Stmt::Assign { name, value: _ } => Some(name),
-                Stmt::Pay { leg: _, amount: _ } => None,
+                Stmt::Pay { .. } | Stmt::If { .. } => None,
             },
         }
     }
@@ -68,9 +71,9 @@ impl<'a> Part<'a> {
         ensures { option_map (λ name. name.now) result ≡ name_in as_leg (part self.entry) }
     {
         match self {
-            Part::Number(_) => None,
+            Part::Number(_) | Part::Condition(_) => None,
             Part::Statement(statement) => match statement {
-                Stmt::Assign { name: _, value: _ } => None,
+                Stmt::Assign { .. } | Stmt::If { .. } => None,
                 Stmt::Pay { leg, amount: _ } => Some(leg),
             },
         }
@@ -117,6 +120,7 @@ fn add_item<'a>(parts: &mut Vec<Part<'a>>, item: &'a Item) -> Result<(), NoMemor
 }
 
 /// Appends the parts of statements.
+#[cycle(statements)]
 fn add_body<'a>(parts: &mut Vec<Part<'a>>, body: &'a [Stmt]) -> Result<(), NoMemory>
     ensures { OnOk result (map part parts.new.items ≡ map part parts.old.items ++ body_parts (view.body body.now)) }
 {
@@ -126,7 +130,8 @@ fn add_body<'a>(parts: &mut Vec<Part<'a>>, body: &'a [Stmt]) -> Result<(), NoMem
     Ok(())
 }
 
-/// Appends a statement and the parts of its number.
+/// Appends a statement and the parts of its number, or of its condition and its branches.
+#[cycle(statements)]
 fn add_statement<'a>(parts: &mut Vec<Part<'a>>, statement: &'a Stmt) -> Result<(), NoMemory>
     ensures { OnOk result (map part parts.new.items ≡ map part parts.old.items ++ statement_parts (view.statement statement.now)) }
 {
@@ -134,6 +139,29 @@ fn add_statement<'a>(parts: &mut Vec<Part<'a>>, statement: &'a Stmt) -> Result<(
     match statement {
         Stmt::Assign { name: _, value } => add_number(parts, value),
         Stmt::Pay { leg: _, amount } => add_number(parts, amount),
+        Stmt::If { cond, yes, no } => {
+            add_condition(parts, cond)?;
+            add_body(parts, yes)?;
+            add_body(parts, no)
+        }
+    }
+}
+
+/// Appends a condition and the parts of its sides.
+fn add_condition<'a>(parts: &mut Vec<Part<'a>>, condition: &'a Cond) -> Result<(), NoMemory>
+    ensures { OnOk result (map part parts.new.items ≡ map part parts.old.items ++ condition_parts (view.condition condition.now)) }
+{
+    add_part(parts, Part::Condition(condition))?;
+    match condition {
+        Cond::Compare(_, left, right) => {
+            add_number(parts, left)?;
+            add_number(parts, right)
+        }
+        Cond::Not(side) => add_condition(parts, side),
+        Cond::And(left, right) | Cond::Or(left, right) => {
+            add_condition(parts, left)?;
+            add_condition(parts, right)
+        }
     }
 }
 

@@ -7,7 +7,7 @@ use pay_dates::Day;
 pub enum What {
     /// Events of a script.
     Events,
-    /// Nodes of a script: its numbers and statements.
+    /// Nodes of a script: its numbers, conditions and statements.
     Nodes,
     /// Payments of a script.
     Pays,

@@ -1,29 +1,17 @@
 //! The statements of an event in one scenario: their effect on variables and payments, or their fault.
 
-ghost use Rattle.std.specs.Prelude.{◌≡◌, ◌∷◌, [], ◌++◌, IfErr, IfOk, IsErrOf, IsOk, OnOk, map};
-ghost use Rattle.pay_meaning.specs.Meaning as meant;
+ghost use Rattle.std.specs.Prelude.{◌≡◌, ◌∷◌, [], ◌++◌, IfErr, IsErrOf, OnOk, map};
 ghost use Rattle.pay_meaning.specs.Meaning.{effect, effect_of, after_payments};
 ghost use Rattle.pay_tree.specs.Views as view;
 ghost use Rattle.pay_tool.specs.RunViews.{Extends, leaves, moment, payment, StopsAs};
+ghost use Rattle.pay_tool.specs.Wants.{WantedAmong, WantedIn};
 
+use crate::value::{Moment, truth, value};
 use crate::variables::Variables;
 use pay_dates::Day;
-use pay_fixed::{Arith, Fixed, NoMemory};
+use pay_fixed::{Fixed, NoMemory};
 use pay_meaning::FaultKind;
-use pay_tree::{Binary, Expr, Name, Stmt, Unary};
-
-/// What the statements of an event can read of it.
-#[derive(Drop)]
-pub struct Moment {
-    /// Its date.
-    pub date: Day,
-    /// The fixing at its date, where there is one.
-    pub fixing: Option<Fixed>,
-    /// Its place in its schedule, 0 in a plain item.
-    pub period: u32,
-    /// The days since the date before in its schedule, 0 in a plain item.
-    pub days: u32,
-}
+use pay_tree::{Name, Stmt};
 
 /// An amount that a leg is paid at a date.
 #[derive(Drop)]
@@ -69,66 +57,6 @@ impl From<NoMemory> for Stop {
     }
 }
 
-/// The answer of a calculation, with the fault that its error is.
-fn limited(answer: Result<Fixed, Arith>) -> Result<Fixed, FaultKind>
-    ensures ok { IfOk answer (λ number. result ≡ Ok number) }
-    ensures overflow { IsErrOf answer Arith.Overflow → result ≡ Err FaultKind.Overflow }
-    ensures zero_divisor { IsErrOf answer Arith.ZeroDivisor → result ≡ Err FaultKind.ZeroDivisor }
-{
-    match answer {
-        Ok(number) => Ok(number),
-        Err(Arith::Overflow) => Err(FaultKind::Overflow),
-        Err(Arith::ZeroDivisor) => Err(FaultKind::ZeroDivisor),
-    }
-}
-
-/// The number of two numbers under an operator: `ZeroDivisor` for a quotient by zero, else `Overflow` where it is beyond
-/// the limit.
-fn calculated(op: Binary, left: Fixed, right: Fixed) -> Result<Fixed, FaultKind>
-    ensures { result ≡ meant.calculated (view.operator op) left right }
-{
-    match op {
-        Binary::Add => limited(left.add(right)),
-        Binary::Sub => limited(left.sub(right)),
-        Binary::Mul => limited(left.mul(right)),
-        Binary::Div => limited(left.div(right)),
-        Binary::Min => Ok(left.min(right)),
-        Binary::Max => Ok(left.max(right)),
-    }
-}
-
-/// A count as a number.
-fn whole(count: u32) -> Fixed
-    ensures { result ≡ meant.whole count }
-{
-    Fixed::from_raw(i64::from(count) * 10_000).unwrap()
-}
-
-/// The value of an expression.
-///
-/// # Errors
-///
-/// The first fault from left to right: `MissingFixing` where the fixing is read and there is none, `ZeroDivisor` where a
-/// divisor is zero, `Overflow` where a result is beyond the limit.
-pub fn value<'a>(expr: &'a Expr, variables: &Variables<'a>, at: &Moment) -> Result<Fixed, FaultKind>
-    ensures { result ≡ meant.value (view.number expr.now) variables.now (moment at.now) }
-{
-    match expr {
-        Expr::Number(number) => Ok(*number),
-        Expr::Name(name) => Ok(variables.lookup(name)),
-        Expr::Spot => at.fixing.ok_or(FaultKind::MissingFixing),
-        Expr::Period => Ok(whole(at.period)),
-        Expr::Days => Ok(whole(at.days)),
-        Expr::Unary(Unary::Neg, side) => Ok(value(side, variables, at)?.neg()),
-        Expr::Unary(Unary::Abs, side) => Ok(value(side, variables, at)?.abs()),
-        Expr::Binary(op, left, right) => {
-            let first = value(left, variables, at)?;
-            let second = value(right, variables, at)?;
-            calculated(*op, first, second)
-        }
-    }
-}
-
 /// Appends a payment.
 fn add_payment<'a>(
     payments: &mut Vec<Payment<'a>>,
@@ -145,7 +73,8 @@ fn add_payment<'a>(
     }
 }
 
-/// Runs a statement: it gives a variable its value, or appends a payment.
+/// Runs a statement: it gives a variable its value, appends a payment, or runs one of its branches.
+#[cycle(run)]
 fn run_statement<'a>(
     statement: &'a Stmt,
     variables: &mut Variables<'a>,
@@ -155,7 +84,7 @@ fn run_statement<'a>(
     ensures ok { OnOk result (after_payments (map payment payments.old.items) (effect_of (view.statement statement.now) variables.old (moment at.now))
         ≡ leaves variables.new payments.new.items) }
     ensures fault { IfErr result (StopsAs (effect_of (view.statement statement.now) variables.old (moment at.now))) }
-    ensures memory { IsErrOf result Stop.NoMemory → IsOk (effect_of (view.statement statement.now) variables.old (moment at.now)) }
+    ensures memory { IsErrOf result Stop.NoMemory → WantedIn (view.statement statement.now) variables.old (moment at.now) }
     ensures extends { Extends payments.old.items payments.new.items }
 {
     match statement {
@@ -170,6 +99,13 @@ fn run_statement<'a>(
             let amount = value(amount, variables, at)?;
             add_payment(payments, at.date, leg, amount)?;
         }
+        Stmt::If { cond, yes, no } => {
+            if truth(cond, variables, at)? {
+                run_statements(yes, variables, at, payments)?;
+            } else {
+                run_statements(no, variables, at, payments)?;
+            }
+        }
     }
     Ok(())
 }
@@ -180,6 +116,7 @@ fn run_statement<'a>(
 ///
 /// `Fault` with the fault of the first statement that has one, `NoMemory` where there was no memory for a variable or a
 /// payment. Then `payments` has what it had, and perhaps some payments after it.
+#[cycle(run)]
 pub fn run_statements<'a>(
     statements: &'a [Stmt],
     variables: &mut Variables<'a>,
@@ -189,6 +126,7 @@ pub fn run_statements<'a>(
     ensures ok { OnOk result (after_payments (map payment payments.old.items) (effect (view.body statements.now) variables.old (moment at.now))
         ≡ leaves variables.new payments.new.items) }
     ensures fault { IfErr result (StopsAs (effect (view.body statements.now) variables.old (moment at.now))) }
+    ensures memory { IsErrOf result Stop.NoMemory → WantedAmong (view.body statements.now) variables.old (moment at.now) }
     ensures extends { Extends payments.old.items payments.new.items }
 {
     for statement in statements {

@@ -2,9 +2,9 @@ use Rattle.std.proofs.Common.{◌≡◌, ◌++◌, drop, map}
 use Rattle.pay_meaning.specs.Parts.{body_parts}
 use Rattle.pay_tree.specs.Views.{body}
 use Rattle.pay_tool.specs.PartViews.{part}
-use Rattle.pay_tool.proofs.parts.add_body.Given as goal
+use Rattle.pay_tool.proofs.parts.+statements.Given as goal
 
 -- the parts so far and those of what is left are all parts
-abbrev pub invariant-loop-statement : goal.invariant-loop-statement
-invariant-loop-statement l =
+abbrev pub invariant-add_body-loop-statement : goal.invariant-add_body-loop-statement
+invariant-add_body-loop-statement l =
     map part l.parts.items ++ body_parts (body (drop l.statement-index l.body)) ≡ map part l.initial.parts.items ++ body_parts (body l.body)
