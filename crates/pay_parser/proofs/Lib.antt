@@ -15,4 +15,5 @@ pub mod FirstLemmas
 pub mod StackLemmas
 pub mod BodyLemmas
 pub mod SignLemmas
+pub mod NotLemmas
 pub mod DepthSteps

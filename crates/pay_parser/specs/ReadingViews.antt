@@ -2,12 +2,12 @@
 use Rattle.std.specs.Prelude.{◌≡◌, ◌∷◌, [], List, length, map, reverse, Option, Some, None, IsSome, Result, Ok, Err, Vec}
 use Rattle.std.specs.Option.{option_map}
 use Rattle.std.specs.Global.{Global}
-use Rattle.pay_meaning.specs.Language.{Body, Script}
+use Rattle.pay_meaning.specs.Language.{compare, bare, Condition, Body, Script}
 use Rattle.pay_tree.specs.declared.tree.Item.{Item as ItemTree}
 use Rattle.pay_tree.specs.declared.tree.Stmt.{Stmt}
 use Rattle.pay_tree.specs.declared.name.NameFault.{NameFault}
 use Rattle.pay_tree.specs.declared.name.NameFault.TheVariants as name_fault
-use Rattle.pay_tree.specs.Views.{operator, number, body, item}
+use Rattle.pay_tree.specs.Views.{operator, comparison, number, condition, body, item}
 use Rattle.pay_parser.specs.declared.parse_fault.ParseFault.{ParseFault}
 use Rattle.pay_parser.specs.declared.parse_fault.ParseFault.TheVariants as fault
 use Rattle.pay_parser.specs.declared.parse_fault.StepFault.{StepFault}
@@ -19,19 +19,28 @@ use Rattle.pay_parser.specs.declared.place.Sum.TheVariants as sum_tree
 use Rattle.pay_parser.specs.declared.place.Product.{Product as ProductTree}
 use Rattle.pay_parser.specs.declared.place.Product.TheVariants as product_tree
 use Rattle.pay_parser.specs.declared.place.Before.{Before as BeforeTree}
+use Rattle.pay_parser.specs.declared.place.Logic.{Logic as LogicTree}
+use Rattle.pay_parser.specs.declared.place.Opening.{Opening as OpeningTree}
+use Rattle.pay_parser.specs.declared.place.Opening.TheVariants as opening_tree
+use Rattle.pay_parser.specs.declared.place.Tail.{Tail as TailTree}
+use Rattle.pay_parser.specs.declared.place.Tail.TheVariants as tail_tree
+use Rattle.pay_parser.specs.declared.place.Owner.{Owner as OwnerTree}
+use Rattle.pay_parser.specs.declared.place.Owner.TheVariants as owner_tree
 use Rattle.pay_parser.specs.declared.place.Frame.{Frame as FrameTree}
 use Rattle.pay_parser.specs.declared.place.Frame.TheVariants as frame_tree
 use Rattle.pay_parser.specs.declared.place.Stack.{Stack as StackTree}
 use Rattle.pay_parser.specs.declared.place.Innermost.{Innermost as InnermostTree}
 use Rattle.pay_parser.specs.declared.place.Innermost.TheVariants as innermost_tree
+use Rattle.pay_parser.specs.declared.place.Block.{Block as BlockTree}
 use Rattle.pay_parser.specs.declared.place.Unfinished.{Unfinished as UnfinishedTree}
 use Rattle.pay_parser.specs.declared.place.Mode.{Mode as ModeTree}
 use Rattle.pay_parser.specs.declared.place.Mode.TheVariants as mode_tree
 use Rattle.pay_parser.specs.declared.place.State.{State as StateTree}
 use Rattle.pay_parser.specs.Reading as reading
 use Rattle.pay_parser.specs.Reading.{Head, assigns, pays, Sum, no_sum, sum_plus, sum_minus, Product, no_product, product_times, product_over}
-use Rattle.pay_parser.specs.Reading.{Before, Frame, a_script, an_item, a_statement, a_bracket, an_absolute, a_choice}
-use Rattle.pay_parser.specs.Reading.{Mode, free, named, factor_next, after, bracket_next, call_named, call_opened, State}
+use Rattle.pay_parser.specs.Reading.{Before, Logic, a_logic, Opening, of_if, of_bracket, Owner, of_item, of_yes, of_no, Frame, a_script, a_body}
+use Rattle.pay_parser.specs.Reading.{a_statement, a_condition, a_comparison, a_bracket, an_absolute, a_choice, Mode, free, after_endif, named}
+use Rattle.pay_parser.specs.Reading.{factor_next, after, after_condition, bracket_next, call_named, call_opened, State, summed}
 
 abbrev pub head : HeadTree → Head
 head (head_tree.Assigns name) = assigns name
@@ -50,13 +59,32 @@ product (product_tree.Over left) = product_over (number left)
 abbrev pub before : BeforeTree → Before
 before left = reading.before (sum left.sum) (product left.product) (length left.signs.items)
 
--- the statements of an item so far
+abbrev pub logic : LogicTree → Logic
+logic left = a_logic (option_map condition left.ors) (option_map condition left.ands) (length left.nots.items)
+
+abbrev pub opening : OpeningTree → Opening
+opening opening_tree.If = of_if
+opening opening_tree.Bracket = of_bracket
+
+-- the condition that a condition so far ends in
+abbrev pub tail : TailTree → Condition
+tail (tail_tree.Made c) = condition c
+tail (tail_tree.Compared op left s term) = compare (comparison op) (number left) (summed (sum s) (number term)) bare
+
+-- statements so far
 abbrev pub statements : Vec Stmt Global → Body
 statements so_far = body so_far.items
 
+abbrev pub owner : OwnerTree → Owner
+owner (owner_tree.Item date) = of_item date
+owner (owner_tree.Yes c) = of_yes (condition c)
+owner (owner_tree.No c first) = of_no (condition c) (statements first)
+
 abbrev pub frame : FrameTree → Frame
-frame (frame_tree.Item date so_far) = an_item date (statements so_far)
+frame (frame_tree.Body o so_far) = a_body (owner o) (statements so_far)
 frame (frame_tree.Statement h) = a_statement (head h)
+frame (frame_tree.Condition o left) = a_condition (opening o) (logic left)
+frame (frame_tree.Comparison op left) = a_comparison (comparison op) (number left)
 frame (frame_tree.Bracket left) = a_bracket (before left)
 frame (frame_tree.Absolute left) = an_absolute (before left)
 frame (frame_tree.Choice op left first) = a_choice (operator op) (before left) (option_map number first)
@@ -76,15 +104,21 @@ abbrev pub innermost : InnermostTree → List Frame
 innermost (innermost_tree.Script so_far) = a_script (items so_far) ∷ []
 innermost (innermost_tree.Frame inner stack) = frame inner ∷ frames stack
 
--- a statement that awaits its number, in its item
+-- statements so far, in what they stand in
+abbrev pub block : BlockTree → List Frame
+block open_one = a_body (owner open_one.owner) (statements open_one.body) ∷ frames open_one.outer
+
+-- a statement that awaits its number, after the statements before it
 abbrev pub unfinished : UnfinishedTree → List Frame
-unfinished open_one = a_statement (head open_one.head) ∷ an_item open_one.date (statements open_one.body) ∷ frames open_one.outer
+unfinished open_one = a_statement (head open_one.head) ∷ a_body (owner open_one.owner) (statements open_one.body) ∷ frames open_one.outer
 
 abbrev pub mode : ModeTree → Mode
 mode mode_tree.Free = free
+mode mode_tree.AfterEndif = after_endif
 mode (mode_tree.Named name) = named name
 mode (mode_tree.FactorNext left) = factor_next (before left)
 mode (mode_tree.After s term) = after (sum s) (number term)
+mode (mode_tree.AfterCondition c) = after_condition (condition c)
 mode (mode_tree.BracketNext inner) = bracket_next (frame inner)
 mode (mode_tree.CallNamed called left) = call_named (number called) (before left)
 mode (mode_tree.CallOpened called left) = call_opened (number called) (before left)

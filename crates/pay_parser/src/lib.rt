@@ -18,12 +18,17 @@
 #![tactic(auto)]
 
 pub mod canonical_law;
+mod condition;
+mod conditions;
+mod endings;
+mod factors;
 pub mod grammar_laws;
 pub mod limit_laws;
 mod number;
 mod parse_fault;
 mod parser;
 mod place;
+mod statements;
 #[cfg(test)]
 mod tests;
 mod token_limits;

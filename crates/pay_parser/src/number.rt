@@ -8,7 +8,7 @@ ghost use Rattle.pay_parser.specs.ReadingViews as view;
 ghost use Rattle.pay_parser.specs.ReadingViews.{Gives};
 
 use crate::parse_fault::StepFault;
-use crate::place::{Head, Prefix, Product, Sum};
+use crate::place::{Before, Head, Mode, Prefix, Product, Stack, State, Sum};
 use pay_tree::{Binary, Expr, Stmt, Unary};
 use std::alloc::Global;
 
@@ -109,4 +109,25 @@ pub fn headed(head: Head, value: Expr) -> Stmt
         Head::Assigns(name) => Stmt::Assign { name, value },
         Head::Pays(leg) => Stmt::Pay { leg, amount: value },
     }
+}
+
+/// The state after an atom.
+///
+/// # Errors
+///
+/// `NoMemory` where there was no memory for its term.
+pub fn arrived(alloc: Global, stack: Stack, left: Before, atom: Expr) -> Result<State, StepFault>
+    ensures { Gives view.state result (Some (reading.arrived (view.frames stack) (view.before left) (tree_of.number atom))) }
+{
+    let Before {
+        sum,
+        product,
+        signs,
+    } = left;
+    let factor = signed_by(alloc, &signs, atom)?;
+    let term = multiplied(alloc, product, factor)?;
+    Ok(State {
+        stack,
+        mode: Mode::After(sum, term),
+    })
 }

@@ -1,13 +1,14 @@
 //! Where in a script the parser stands: what is open, and what is awaited.
 
-ghost use Rattle.std.specs.Prelude.{◌≡◌, ◌∷◌, Some};
+ghost use Rattle.std.specs.Prelude.{◌≡◌, ◌∷◌, [], Some, None, MatchOption};
+ghost use Rattle.pay_meaning.specs.Language.{Number, Statement, done};
 ghost use Rattle.pay_parser.specs.Reading as reading;
 ghost use Rattle.pay_parser.specs.ReadingViews as view;
 ghost use Rattle.pay_parser.specs.ReadingViews.{Gives};
 
 use crate::parse_fault::StepFault;
 use pay_dates::Day;
-use pay_tree::{Binary, Expr, Item, Name, Stmt};
+use pay_tree::{Binary, Compare, Cond, Expr, Item, Name, Stmt};
 use std::alloc::Global;
 
 /// What a statement does with its number.
@@ -59,18 +60,64 @@ pub struct Before {
     pub signs: Vec<Prefix>,
 }
 
+/// A word before a comparison.
+#[derive(Clone, Copy)]
+pub enum Negation {
+    /// `not`.
+    Not,
+}
+
+/// What stands left of a comparison in its condition.
+#[derive(Drop)]
+pub struct Logic {
+    /// The condition that stands before an `or`, if one does.
+    pub ors: Option<Cond>,
+    /// The condition that stands before an `and`, if one does.
+    pub ands: Option<Cond>,
+    /// The `not`s of the comparison: a list, so that nothing but memory bounds their count.
+    pub nots: Vec<Negation>,
+}
+
+/// What opened a condition.
+#[derive(Clone, Copy)]
+pub enum Opening {
+    /// An `if`.
+    If,
+    /// A bracket that stands where a comparison may begin, which may turn out to be that of a number.
+    Bracket,
+}
+
+/// What a condition so far ends in.
+#[derive(Drop)]
+pub enum Tail {
+    /// A condition in brackets, which is made.
+    Made(Cond),
+    /// A comparison of this number with the one that a term ends after a sum, which is made once it is known that it may end.
+    Compared(Compare, Expr, Sum, Expr),
+}
+
+/// What statements belong to.
+#[derive(Drop)]
+pub enum Owner {
+    /// An item on this date.
+    Item(Day),
+    /// The first branch of an `if` with this condition.
+    Yes(Cond),
+    /// The second branch of an `if` with this condition and this first branch.
+    No(Cond, Vec<Stmt>),
+}
+
 /// What is open within a script.
 #[derive(Drop)]
 pub enum Frame {
-    /// An item on a date, with its statements so far.
-    Item {
-        /// Its date.
-        date: Day,
-        /// Its statements so far.
-        body: Vec<Stmt>,
-    },
+    /// Statements so far, and what they belong to.
+    Body(Owner, Vec<Stmt>),
     /// A statement that awaits its number.
     Statement(Head),
+    /// A condition, by what opened it, with what stands left of a comparison in it.
+    Condition(Opening, Logic),
+    /// A comparison that awaits its right number, with its left one.
+    Comparison(Compare, Expr),
     /// A bracket.
     Bracket(Before),
     /// The bracket of `abs`.
@@ -97,14 +144,25 @@ pub enum Innermost {
     Frame(Frame, Stack),
 }
 
-/// A statement that awaits its number, taken off what is open together with its item.
+/// Statements so far, taken off what is open.
+#[derive(Drop)]
+pub struct Block {
+    /// What they stand in.
+    pub outer: Stack,
+    /// What they belong to.
+    pub owner: Owner,
+    /// The statements so far.
+    pub body: Vec<Stmt>,
+}
+
+/// A statement that awaits its number, taken off what is open together with the statements before it.
 #[derive(Drop)]
 pub struct Unfinished {
-    /// What the item stands in.
+    /// What the statements stand in.
     pub outer: Stack,
-    /// The date of the item.
-    pub date: Day,
-    /// The statements of the item so far.
+    /// What the statements belong to.
+    pub owner: Owner,
+    /// The statements before it.
     pub body: Vec<Stmt>,
     /// What the statement does with its number.
     pub head: Head,
@@ -113,14 +171,18 @@ pub struct Unfinished {
 /// What is awaited.
 #[derive(Drop)]
 pub enum Mode {
-    /// A statement or an item.
+    /// A statement or an item, or the end of a branch.
     Free,
+    /// The same or a `;`, after `endif`.
+    AfterEndif,
     /// What follows the name that begins a statement.
     Named(Name),
     /// A factor.
     FactorNext(Before),
     /// What follows a factor, which ends this term after this sum.
     After(Sum, Expr),
+    /// What follows this condition in brackets.
+    AfterCondition(Cond),
     /// The bracket that opens this frame.
     BracketNext(Frame),
     /// The two brackets after the word that stands for this number.
@@ -138,17 +200,23 @@ pub struct State {
     pub mode: Mode,
 }
 
-/// The state before a script.
+/// A script between its items.
 #[tactic(auto, using(crate::proofs::StackLemmas::stack_laws))]
+pub fn between_items(alloc: Global, items: Vec<Item>) -> Stack
+    ensures { view.frames result ≡ reading.a_script (view.items items) ∷ [] }
+{
+    Stack {
+        items,
+        frames: Vec::new(alloc),
+    }
+}
+
+/// The state before a script.
 pub fn start(alloc: Global) -> State
     ensures { view.state result ≡ reading.start }
 {
-    let stack = Stack {
-        items: Vec::new(alloc),
-        frames: Vec::new(alloc),
-    };
     State {
-        stack,
+        stack: between_items(alloc, Vec::new(alloc)),
         mode: Mode::Free,
     }
 }
@@ -174,6 +242,76 @@ pub fn innermost_of(mut stack: Stack) -> Innermost
     match stack.frames.pop() {
         None => Innermost::Script(stack.items),
         Some(frame) => Innermost::Frame(frame, stack),
+    }
+}
+
+/// The state before the first of some statements.
+///
+/// # Errors
+///
+/// `NoMemory` where there was no memory for their frame.
+pub fn begun_body(alloc: Global, stack: Stack, owner: Owner) -> Result<State, StepFault>
+    ensures { Gives view.state result (Some (reading.state (reading.a_body (view.owner owner) done ∷ view.frames stack) reading.free)) }
+{
+    let body = Vec::new(alloc);
+    let stack = pushed(stack, Frame::Body(owner, body))?;
+    Ok(State {
+        stack,
+        mode: Mode::Free,
+    })
+}
+
+/// The state after what opens a frame, where a factor is awaited in it.
+///
+/// # Errors
+///
+/// `NoMemory` where there was no memory for the frame.
+pub fn opened(alloc: Global, stack: Stack, frame: Frame) -> Result<State, StepFault>
+    ensures { Gives view.state result (Some (reading.state (view.frame frame ∷ view.frames stack) (reading.factor_next reading.fresh))) }
+{
+    let stack = pushed(stack, frame)?;
+    Ok(State {
+        stack,
+        mode: Mode::FactorNext(fresh(alloc)),
+    })
+}
+
+/// The statements that are innermost, if some are.
+pub fn block_of(stack: Stack) -> Option<Block>
+    ensures { MatchOption result ((statement : Statement) → reading.with_statement (view.frames stack) statement ≡ None)
+        (λ block. view.block block ≡ view.frames stack) }
+{
+    let Innermost::Frame(frame, outer) = innermost_of(stack) else {
+        return None;
+    };
+    match frame {
+        Frame::Body(owner, body) => Some(Block { outer, owner, body }),
+        _ => None,
+    }
+}
+
+/// The statement that awaits its number, if one does.
+pub fn unfinished_of(stack: Stack) -> Option<Unfinished>
+    ensures { MatchOption result ((number : Number) → reading.ended (view.frames stack) number ≡ None)
+        (λ statement. view.unfinished statement ≡ view.frames stack) }
+{
+    let Innermost::Frame(inner, within) = innermost_of(stack) else {
+        return None;
+    };
+    let Innermost::Frame(middle, outer) = innermost_of(within) else {
+        return None;
+    };
+    match inner {
+        Frame::Statement(head) => match middle {
+            Frame::Body(owner, body) => Some(Unfinished {
+                outer,
+                owner,
+                body,
+                head,
+            }),
+            _ => None,
+        },
+        _ => None,
     }
 }
 
@@ -205,4 +343,17 @@ pub fn with_sign(mut left: Before) -> Result<Before, StepFault>
 {
     left.signs.push(Prefix::Minus)?;
     Ok(left)
+}
+
+/// Whether nothing stands left of an atom.
+pub fn is_fresh(left: &Before) -> bool
+    ensures { result ≡ reading.is_fresh (view.before left.now) }
+{
+    match left.sum {
+        Sum::Nothing => match left.product {
+            Product::Nothing => left.signs.is_empty(),
+            _ => false,
+        },
+        _ => false,
+    }
 }
