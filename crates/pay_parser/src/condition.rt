@@ -125,6 +125,25 @@ pub fn made(alloc: Global, tail: Tail) -> Result<Cond, StepFault>
     }
 }
 
+/// The conjunction that a condition so far ends, with its `not`s, from what stands left of it.
+///
+/// # Errors
+///
+/// `NoMemory` where there was no memory for it.
+fn conjunction_of(
+    alloc: Global,
+    ands: Option<Cond>,
+    nots: &[Negation],
+    tail: Tail,
+) -> Result<Cond, StepFault>
+    ensures { Gives tree_of.condition result
+        (Some (reading.conjoined (option_map tree_of.condition ands) (reading.negated_by (length nots.now) (view.tail tail)))) }
+{
+    let condition = made(alloc, tail)?;
+    let negated = negated_by(alloc, nots, condition)?;
+    conjoined(alloc, ands, negated)
+}
+
 /// Nothing, left of the first comparison of a condition.
 pub fn no_logic(alloc: Global) -> Logic
     ensures { view.logic result ≡ reading.no_logic }
@@ -145,9 +164,7 @@ pub fn condition_of(alloc: Global, logic: Logic, tail: Tail) -> Result<Cond, Ste
     ensures { Gives tree_of.condition result (Some (reading.condition_of (view.logic logic) (view.tail tail))) }
 {
     let Logic { ors, ands, nots } = logic;
-    let condition = made(alloc, tail)?;
-    let negated = negated_by(alloc, &nots, condition)?;
-    let conjunction = conjoined(alloc, ands, negated)?;
+    let conjunction = conjunction_of(alloc, ands, &nots, tail)?;
     disjoined(alloc, ors, conjunction)
 }
 
@@ -160,9 +177,7 @@ pub fn with_and(alloc: Global, logic: Logic, tail: Tail) -> Result<Logic, StepFa
     ensures { Gives view.logic result (Some (reading.with_and (view.logic logic) (view.tail tail))) }
 {
     let Logic { ors, ands, nots } = logic;
-    let condition = made(alloc, tail)?;
-    let negated = negated_by(alloc, &nots, condition)?;
-    let conjunction = conjoined(alloc, ands, negated)?;
+    let conjunction = conjunction_of(alloc, ands, &nots, tail)?;
     Ok(Logic {
         ors,
         ands: Some(conjunction),

@@ -2,7 +2,7 @@
 //!
 //! What the token ends is looked at first: memory is taken only where the token may stand there.
 
-ghost use Rattle.std.specs.Prelude.{◌≡◌, Some, List};
+ghost use Rattle.std.specs.Prelude.{◌≡◌, ◌∷◌, Some, List};
 ghost use Rattle.pay_lexer.specs.declared.token.TokenKind.{TokenKind};
 ghost use Rattle.pay_tree.specs.Views as tree_of;
 ghost use Rattle.pay_parser.specs.Reading as reading;

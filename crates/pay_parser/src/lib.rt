@@ -9,7 +9,9 @@
 //! ```
 //!
 //! Here the script has one item, on 2024-06-28, with one statement: the leg `a` is paid `((-(1 + 2) * x) - 3)`. Factors are grouped before terms,
-//! a minus sign before both, and each of them to the left, so `a - b - c` is `(a - b) - c` and `min(a, b, c)` is `min(min(a, b), c)`.
+//! a minus sign before both, and each of them to the left, so `a - b - c` is `(a - b) - c` and `min(a, b, c)` is `min(min(a, b), c)`. In a
+//! condition `not` is grouped before `and`, and `and` before `or`, and both of these to the left. A bracket that stands where a comparison may
+//! begin can be that of a condition or that of a number: what stands in it shows which, so no token is read twice.
 //!
 //! What tokens spell is said by the relation of `specs/Grammar.antt`, over all ways to cut them. The code takes one token at a time and each
 //! token once, as the reading of `specs/Reading.antt` does: what is open stands on a stack of frames, and a mode says what is awaited. That the

@@ -12,7 +12,7 @@ use std::test::Fail;
 type Text = (&'static [u8], &'static [u8], usize, &'static [u8]);
 
 // Texts, and the fault of each, if it has one.
-const TEXTS: [(Text, Option<ParseFault>); 23] = [
+const TEXTS: [(Text, Option<ParseFault>); 25] = [
     ((b"", b"", 0, b""), None),
     (
         (
@@ -57,6 +57,14 @@ const TEXTS: [(Text, Option<ParseFault>); 23] = [
     (
         (b"a ", b"(", 101, b""),
         Some(ParseFault::TooDeep { at: 102 }),
+    ),
+    (
+        (b"@2024-06-28 ", b"if ", 96, b""),
+        Some(ParseFault::NotScript),
+    ),
+    (
+        (b"@2024-06-28 ", b"if ", 97, b""),
+        Some(ParseFault::TooDeep { at: 300 }),
     ),
     ((b"a = 1", b"", 0, b""), Some(ParseFault::NotScript)),
     ((b"@2024-06-28 a", b"", 0, b""), Some(ParseFault::NotScript)),
@@ -108,6 +116,90 @@ const NUMBERS: [(&[u8], &[u8]); 7] = [
     ),
 ];
 
+// Conditions as they may be written, and their canonical text.
+const CONDITIONS: [(&[u8], &[u8]); 14] = [
+    (b"a < 1", b"a < 1"),
+    (b"((1 < 2))", b"1 < 2"),
+    (b"(1 + 1) * 2 > 3", b"((1 + 1) * 2) > 3"),
+    (b"((1) + 1) * 2 >= (3)", b"((1 + 1) * 2) >= 3"),
+    (b"-(1 + 1) <= -2", b"-(1 + 1) <= -2"),
+    (b"3 != (((2)))", b"3 != 2"),
+    (b"a = 1 and b = 2 or c = 3", b"((a = 1 and b = 2) or c = 3)"),
+    (b"a = 1 or b = 2 and c = 3", b"(a = 1 or (b = 2 and c = 3))"),
+    (b"a = 1 or b = 2 or c = 3", b"((a = 1 or b = 2) or c = 3)"),
+    (
+        b"a = 1 and (b = 2 and c = 3)",
+        b"(a = 1 and (b = 2 and c = 3))",
+    ),
+    (b"not a = 1 and b = 2", b"(not a = 1 and b = 2)"),
+    (b"not (a = 1 and b = 2)", b"not (a = 1 and b = 2)"),
+    (b"not not (not a = 1)", b"not not not a = 1"),
+    (
+        b"(not min(a, (1), 2) < abs((b)))",
+        b"not min(min(a, 1), 2) < abs(b)",
+    ),
+];
+
+// Conditions that none are.
+const NO_CONDITIONS: [&[u8]; 14] = [
+    b"",
+    b"1",
+    b"(1)",
+    b"not 1",
+    b"(1 < 2) + 3 > 0",
+    b"-(1 < 2) > 0",
+    b"1 < 2 < 3",
+    b"1 < (2 < 3)",
+    b"(not (1)) < 2",
+    b"(1 and 2) < 3",
+    b"1 < 2 and",
+    b"1 < 2 not 3 < 4",
+    b"(1 < 2, 3)",
+    b"min(1 < 2, 3) < 4",
+];
+
+// Statements, and their canonical text without the front of its lines.
+const STATEMENTS: [(&[u8], &[u8]); 6] = [
+    (b"if a < 1 then endif", b"  if a < 1 then\n  endif\n"),
+    (
+        b"if a < 1 then b = 1 c = 2; else a pays 1; endif;",
+        b"  if a < 1 then\n    b = 1;\n    c = 2;\n  else\n    a pays 1;\n  endif\n",
+    ),
+    (
+        b"x = 1 if a < 1 then if b < 1 then x = 2 else x = 3 endif else x = 4 endif y = 5",
+        b"  x = 1;\n  if a < 1 then\n    if b < 1 then\n      x = 2;\n    else\n      x = 3;\n    endif\n  else\n    x = 4;\n  endif\n  y = 5;\n",
+    ),
+    (
+        b"if a < 1 then if b < 1 then x = 2 endif else x = 4 endif",
+        b"  if a < 1 then\n    if b < 1 then\n      x = 2;\n    endif\n  else\n    x = 4;\n  endif\n",
+    ),
+    (
+        b"if a < 1 then else if b < 1 then endif; endif",
+        b"  if a < 1 then\n  else\n    if b < 1 then\n    endif\n  endif\n",
+    ),
+    (
+        b"if a < 1 then else endif if b < 1 then endif",
+        b"  if a < 1 then\n  endif\n  if b < 1 then\n  endif\n",
+    ),
+];
+
+// Statements that none are.
+const NO_STATEMENTS: [&[u8]; 13] = [
+    b"a pays 1 < 2",
+    b"a = (1 < 2)",
+    b"a = not 1",
+    b"if a < 1 x = 1 endif",
+    b"if a < 1 then x = 1",
+    b"if a < 1 then x = 1 else",
+    b"if a < 1 then else else endif",
+    b"else",
+    b"x = 1 endif",
+    b"if a < 1 then endif endif",
+    b"if a < 1 then endif;;",
+    b"if a < 1 then @2024-06-29 endif",
+    b"if a < 1 then x = 1 @2024-06-29",
+];
+
 fn text_of(alloc: Global, (front, piece, times, end): Text) -> Result<Vec<u8>, AllocError> {
     let mut text = Vec::from_slice(alloc, front)?;
     for _ in 0..times {
@@ -117,14 +209,20 @@ fn text_of(alloc: Global, (front, piece, times, end): Text) -> Result<Vec<u8>, A
     Ok(text)
 }
 
+fn lexed(alloc: Global, text: &[u8]) -> Result<Vec<Token>, Fail>
+    ensures { IfOk result (λ tokens. length tokens.items ≤ 2 ^ 20) }
+{
+    if text.len() > 1_048_576 {
+        return Err(Fail::new("a text of more than a mebibyte"));
+    }
+    Ok(lex(alloc, text)?)
+}
+
 fn tokens_of(alloc: Global, text: Text) -> Result<Vec<Token>, Fail>
     ensures { IfOk result (λ tokens. length tokens.items ≤ 2 ^ 20) }
 {
     let text = text_of(alloc, text)?;
-    if text.len() > 1_048_576 {
-        return Err(Fail::new("a text of more than a mebibyte"));
-    }
-    Ok(lex(alloc, &text)?)
+    lexed(alloc, &text)
 }
 
 #[test]
@@ -223,6 +321,78 @@ fn a_script_is_printed_and_read_back(rt: HostRuntime) -> Result<(), Fail> {
             let script = parse(alloc, &tokens_of(alloc, (text, b"", 0, b""))?)?;
             let printed = print_script(alloc, &script)?;
             assert_eq!(rt; printed.as_slice(), canonical);
+        }
+    }
+    Ok(())
+}
+
+fn printed(alloc: Global, text: Text) -> Result<Vec<u8>, Fail> {
+    let script = parse(alloc, &tokens_of(alloc, text)?)?;
+    Ok(print_script(alloc, &script)?)
+}
+
+fn is_no_script(alloc: Global, text: Text) -> Result<bool, Fail> {
+    let tokens = tokens_of(alloc, text)?;
+    match parse(alloc, &tokens) {
+        Ok(_) => Ok(false),
+        Err(fault) => Ok(fault == ParseFault::NotScript),
+    }
+}
+
+#[test]
+fn conditions_are_grouped_by_their_words(rt: HostRuntime) -> Result<(), Fail> {
+    let alloc = rt.alloc();
+    let (front, end) = (b"@2024-06-28 if ".as_slice(), b" then endif".as_slice());
+    for (condition, canonical) in CONDITIONS {
+        let expected = text_of(
+            alloc,
+            (b"@2024-06-28\n  if ", canonical, 1, b" then\n  endif\n"),
+        )?;
+        for condition in [condition, canonical] {
+            let found = printed(alloc, (front, condition, 1, end))?;
+            assert_eq!(rt; found.as_slice(), expected.as_slice());
+        }
+    }
+    for condition in NO_CONDITIONS {
+        assert!(rt; is_no_script(alloc, (front, condition, 1, end))?);
+    }
+    Ok(())
+}
+
+#[test]
+fn each_branch_belongs_to_its_if(rt: HostRuntime) -> Result<(), Fail> {
+    let alloc = rt.alloc();
+    for (statements, canonical) in STATEMENTS {
+        let expected = text_of(alloc, (b"@2024-06-28\n", canonical, 1, b""))?;
+        for statements in [statements, canonical] {
+            let found = printed(alloc, (b"@2024-06-28 ", statements, 1, b""))?;
+            assert_eq!(rt; found.as_slice(), expected.as_slice());
+        }
+    }
+    for statements in NO_STATEMENTS {
+        assert!(rt; is_no_script(alloc, (b"@2024-06-28 ", statements, 1, b""))?);
+    }
+    Ok(())
+}
+
+#[test]
+fn ifs_nest_as_deep_as_the_limit(rt: HostRuntime) -> Result<(), Fail> {
+    let alloc = rt.alloc();
+    for (depth, fault) in [
+        (96, None),
+        (97, Some(ParseFault::TooDeep { at: 12 + 96 * 14 })),
+    ] {
+        let mut text = text_of(
+            alloc,
+            (b"@2024-06-28 ", b"if a < 1 then ", depth, b"x = 1 "),
+        )?;
+        for _ in 0..depth {
+            text.extend_from_slice(b"endif ")?;
+        }
+        let tokens = lexed(alloc, &text)?;
+        match parse(alloc, &tokens) {
+            Ok(_) => assert!(rt; fault.is_none()),
+            Err(found) => assert_eq!(rt; Some(found), fault),
         }
     }
     Ok(())
