@@ -1,5 +1,6 @@
 pub mod ConditionComplete
 pub mod ScriptComplete
+pub mod PlaceSpelled
 pub mod ScriptSound
 pub mod DepthLemmas
 pub mod CanonicalTokens

@@ -1,6 +1,6 @@
 -- The script that is read from tokens is spelled by them.
 use Rattle.std.proofs.Common.{◌≡◌, ℕ, zero, suc, ℤ, Bool, true, false, IsTrue, List, [], ◌∷◌, ◌++◌, Option, Some, None, Result, Ok, Err}
-use Rattle.std.proofs.Common.{if◌then◌else◌, refl, ap, ◌∙◌, append_assoc, append-nil}
+use Rattle.std.proofs.Common.{if◌then◌else◌, refl, append_assoc, append-nil}
 use Rattle.std.specs.Option.{IfSome, option_map, option_and_then}
 use Rattle.pay_dates.specs.declared.day.Day.{Day}
 use Rattle.pay_fixed.specs.declared.NumberFault.{NumberFault}
@@ -11,173 +11,32 @@ use Rattle.pay_lexer.specs.declared.token.Key.TheVariants as key
 use Rattle.pay_lexer.specs.declared.token.Sign.TheVariants as sign
 use Rattle.pay_lexer.specs.declared.token.TokenKind.{TokenKind}
 use Rattle.pay_lexer.specs.declared.token.TokenKind.TheVariants as token
-use Rattle.pay_meaning.specs.Language.{Operator, least, greatest, Number, literal, variable, spot, period, days, negative, absolute, binary}
-use Rattle.pay_meaning.specs.Language.{Statement, Body, done, and_then, plain, Script}
+use Rattle.pay_meaning.specs.Language.{least, greatest, Number, literal, variable, spot, period, days, absolute, binary, Comparison, less, at_most}
+use Rattle.pay_meaning.specs.Language.{greater, at_least, equals, differs, bare, Condition, compare, Statement, Body, done, and_then, plain, Script}
 use Rattle.pay_meaning.specs.Words.{is_name, IsName}
-use Rattle.pay_parser.specs.Grammar.{bracketed, SpellsNumber, one_term, plus, minus, SpellsTerm, one_factor, times, over, SpellsFactor, one_atom}
-use Rattle.pay_parser.specs.Grammar.{minus_sign, SpellsAtom, of_literal, of_variable, in_brackets, of_least, of_greatest, of_absolute, of_spot}
-use Rattle.pay_parser.specs.Grammar.{of_period, of_days, SpellsArguments, two, one_more_number, SpellsSimple, assignment, payment, SpellsStatement}
-use Rattle.pay_parser.specs.Grammar.{bare, SpellsBody, no_statement, one_more, SpellsScript, no_item, one_more_item}
+use Rattle.pay_parser.specs.Grammar.{SpellsNumber, SpellsTerm, one_atom, SpellsAtom, of_literal, of_variable, in_brackets, of_absolute, sign_of}
+use Rattle.pay_parser.specs.Grammar.{SpellsNegation, two_numbers, condition_in_brackets, SpellsSimple, SpellsStatement, simple, simple_ended, choice}
+use Rattle.pay_parser.specs.Grammar.{choice_ended, SpellsChoice, without_else, with_else, SpellsBody, no_statement, one_more, SpellsScript, no_item}
+use Rattle.pay_parser.specs.Grammar.{one_more_item}
 use Rattle.pay_parser.specs.Grammar.SpellsItem.{dated as of_date}
-use Rattle.pay_parser.specs.Grammar.SpellsStatement.{ended as with_semicolon}
-use Rattle.pay_parser.specs.Reading.{Head, assigns, pays, Sum, no_sum, sum_plus, sum_minus, Product, no_product, product_times, product_over}
-use Rattle.pay_parser.specs.Reading.{Before, before, Frame, a_script, an_item, a_statement, a_bracket, an_absolute, a_choice, Mode, free, named}
-use Rattle.pay_parser.specs.Reading.{factor_next, after, bracket_next, call_named, call_opened, State, state, start, fresh, summed, multiplied, signed_by}
-use Rattle.pay_parser.specs.Reading.{arrived, headed, with_statement, ended, closed, dated, step_word, step_free, step_named, step_literal}
-use Rattle.pay_parser.specs.Reading.{with_sign, step_factor, step_bracket, step_call_named, step_call_opened, step_close, with_argument, step_comma}
-use Rattle.pay_parser.specs.Reading.{step_semicolon, step_ended, step_after, step_in, step, finish_in, finish, read_on, script_in}
+use Rattle.pay_parser.specs.Reading.{assigns, pays, Sum, no_sum, no_product, Before, Logic, a_logic, Opening, of_if, of_bracket, Owner, of_item}
+use Rattle.pay_parser.specs.Reading.{of_no, Frame, a_script, a_body, a_statement, a_condition, a_comparison, a_bracket, Mode, free, named}
+use Rattle.pay_parser.specs.Reading.{factor_next, State, state, start, fresh, summed, signed_by, arrived, headed, no_logic, condition_of, with_and}
+use Rattle.pay_parser.specs.Reading.{with_or, with_not, with_statement, ended, closed, dated, step_word, step_if, step_else, step_endif, step_free}
+use Rattle.pay_parser.specs.Reading.{step_after_endif, step_named, step_literal, with_sign, is_fresh, may_compare, step_open, step_not, step_factor}
+use Rattle.pay_parser.specs.Reading.{step_bracket, step_call_named, step_call_opened, step_group, step_then, step_and, step_or, step_condition}
+use Rattle.pay_parser.specs.Reading.{step_compared, step_comparison, step_number_group, step_close, step_comma, step_semicolon, step_ended}
+use Rattle.pay_parser.specs.Reading.{step_after, step_in, step, finish_in, finish, read_on, script_in}
 use Rattle.pay_parser.specs.GrammarLaws.{ScriptIsSpelled}
-
--- the tokens of what stands left of a term
-data SpellsSum : Sum → List TokenKind → Type 0 where
-  sum_none : SpellsSum no_sum []
-  sum_of_plus : (ts : List TokenKind) (n : Number) → SpellsNumber ts n → SpellsSum (sum_plus n) (ts ++ token.Sign sign.Plus ∷ [])
-  sum_of_minus : (ts : List TokenKind) (n : Number) → SpellsNumber ts n → SpellsSum (sum_minus n) (ts ++ token.Sign sign.Minus ∷ [])
-
--- the tokens of what stands left of a factor
-data SpellsProduct : Product → List TokenKind → Type 0 where
-  product_none : SpellsProduct no_product []
-  product_of_times : (ts : List TokenKind) (n : Number) → SpellsTerm ts n → SpellsProduct (product_times n) (ts ++ token.Sign sign.Star ∷ [])
-  product_of_over : (ts : List TokenKind) (n : Number) → SpellsTerm ts n → SpellsProduct (product_over n) (ts ++ token.Sign sign.Slash ∷ [])
-
--- the tokens of so many minus signs
-abbrev signs_of : ℕ → List TokenKind
-signs_of zero = []
-signs_of (suc n) = signs_of n ++ token.Sign sign.Minus ∷ []
-
--- the tokens of what stands left of an atom
-data SpellsBefore : Before → List TokenKind → Type 0 where
-  stands_left : (sum : Sum) (product : Product) (signs : ℕ) (ts us : List TokenKind) → SpellsSum sum ts → SpellsProduct product us
-      → SpellsBefore (before sum product signs) (ts ++ (us ++ signs_of signs))
-
--- the tokens of a statement in front of its number
-data SpellsHead : Head → List TokenKind → Type 0 where
-  head_assigns : (name : List ℕ) → IsName name → SpellsHead (assigns name) (token.Word name ∷ token.Sign sign.Equals ∷ [])
-  head_pays : (leg : List ℕ) → IsName leg → SpellsHead (pays leg) (token.Word leg ∷ token.Key key.Pays ∷ [])
-
--- the word of a choice
-data IsChoice : Operator → Key → Type 0 where
-  is_least : IsChoice least key.Min
-  is_greatest : IsChoice greatest key.Max
-
--- the arguments of a choice before the next one, with their commas
-data SpellsFirst : Operator → Option Number → List TokenKind → Type 0 where
-  no_first : (op : Operator) → SpellsFirst op None []
-  one_first : (op : Operator) (ts : List TokenKind) (n : Number) → SpellsNumber ts n → SpellsFirst op (Some n) (ts ++ token.Sign sign.Comma ∷ [])
-  more_first : (op : Operator) (ts : List TokenKind) (n : Number) → SpellsArguments op ts n → SpellsFirst op (Some n) (ts ++ token.Sign sign.Comma ∷ [])
-
--- the word that opens a frame of `abs`, `min` or `max`, after what stands left of it
-data SpellsWord : Frame → List TokenKind → Type 0 where
-  word_absolute : (left : Before) (ts : List TokenKind) → SpellsBefore left ts → SpellsWord (an_absolute left) (ts ++ token.Key key.Abs ∷ [])
-  word_choice : (op : Operator) (k : Key) (left : Before) (ts : List TokenKind) → IsChoice op k → SpellsBefore left ts
-      → SpellsWord (a_choice op left None) (ts ++ token.Key k ∷ [])
-
--- the tokens of what is open in a frame
-data SpellsFrame : Frame → List TokenKind → Type 0 where
-  frame_script : (items : Script) (ts : List TokenKind) → SpellsScript ts items → SpellsFrame (a_script items) ts
-  frame_item : (date : Day) (body : Body) (ts : List TokenKind) → SpellsBody ts body → SpellsFrame (an_item date body) (token.Date date ∷ ts)
-  frame_statement : (head : Head) (ts : List TokenKind) → SpellsHead head ts → SpellsFrame (a_statement head) ts
-  frame_bracket : (left : Before) (ts : List TokenKind) → SpellsBefore left ts → SpellsFrame (a_bracket left) (ts ++ token.Sign sign.ParenLeft ∷ [])
-  frame_absolute : (left : Before) (ts : List TokenKind) → SpellsBefore left ts
-      → SpellsFrame (an_absolute left) (ts ++ token.Key key.Abs ∷ token.Sign sign.ParenLeft ∷ [])
-  frame_choice : (op : Operator) (k : Key) (left : Before) (first : Option Number) (ts us : List TokenKind) → IsChoice op k → SpellsBefore left ts
-      → SpellsFirst op first us → SpellsFrame (a_choice op left first) (ts ++ token.Key k ∷ token.Sign sign.ParenLeft ∷ us)
-
--- the tokens of all that is open, the innermost frame's last
-data SpellsFrames : List Frame → List TokenKind → Type 0 where
-  none_open : SpellsFrames [] []
-  one_inside : (frame : Frame) (frames : List Frame) (ts us : List TokenKind) → SpellsFrame frame us → SpellsFrames frames ts
-      → SpellsFrames (frame ∷ frames) (ts ++ us)
-
--- the word of a call without arguments
-data IsCall : Number → Key → Type 0 where
-  is_spot : IsCall spot key.Spot
-  is_period : IsCall period key.Period
-  is_days : IsCall days key.Days
-
--- the tokens inside the innermost frame up to a place
-data SpellsMode : Mode → List TokenKind → Type 0 where
-  at_free : SpellsMode free []
-  at_name : (name : List ℕ) → IsName name → SpellsMode (named name) (token.Word name ∷ [])
-  at_atom : (left : Before) (ts : List TokenKind) → SpellsBefore left ts → SpellsMode (factor_next left) ts
-  at_factor : (sum : Sum) (term : Number) (ts us : List TokenKind) → SpellsSum sum ts → SpellsTerm us term → SpellsMode (after sum term) (ts ++ us)
-  at_word : (frame : Frame) (ts : List TokenKind) → SpellsWord frame ts → SpellsMode (bracket_next frame) ts
-  at_call : (number : Number) (k : Key) (left : Before) (ts : List TokenKind) → IsCall number k → SpellsBefore left ts
-      → SpellsMode (call_named number left) (ts ++ token.Key k ∷ [])
-  at_bracket : (number : Number) (k : Key) (left : Before) (ts : List TokenKind) → IsCall number k → SpellsBefore left ts
-      → SpellsMode (call_opened number left) (ts ++ token.Key k ∷ token.Sign sign.ParenLeft ∷ [])
-
--- these tokens lead to this place
-data Past : State → List TokenKind → Type 0 where
-  past : (frames : List Frame) (mode : Mode) (ts us : List TokenKind) → SpellsFrames frames ts → SpellsMode mode us → Past (state frames mode) (ts ++ us)
-
--- the same, of tokens that are the pieces in a row
-past_is : (frames : List Frame) (mode : Mode) (ts us front : List TokenKind) → SpellsFrames frames ts → SpellsMode mode us → ts ++ us ≡ front
-    → Past (state frames mode) front
-past_is frames mode ts us front k l e = rw e at (past frames mode ts us k l)
-
--- the same, in one more frame
-past_inside : (frame : Frame) (frames : List Frame) (mode : Mode) (ts us vs front : List TokenKind) → SpellsFrames frames ts → SpellsFrame frame us
-    → SpellsMode mode vs → (ts ++ us) ++ vs ≡ front → Past (state (frame ∷ frames) mode) front
-past_inside frame frames mode ts us vs front k l m e = past_is (frame ∷ frames) mode (ts ++ us) vs front (one_inside frame frames ts us l k) m e
-
--- before a term
-past_term : (frames : List Frame) (sum : Sum) (ts us front : List TokenKind) → SpellsFrames frames ts → SpellsSum sum us → ts ++ us ≡ front
-    → Past (state frames (factor_next (before sum no_product 0))) front
-past_term frames sum ts us front k l e =
-    past_is frames _ ts (us ++ []) front k (at_atom _ _ (stands_left sum no_product 0 us [] l product_none)) (ap (λ x. ts ++ x) (append-nil us) ∙ e)
-
--- before the first term of a number in one more frame
-past_fresh : (frame : Frame) (frames : List Frame) (ts us front : List TokenKind) → SpellsFrames frames ts → SpellsFrame frame us → ts ++ us ≡ front
-    → Past (state (frame ∷ frames) (factor_next fresh)) front
-past_fresh frame frames ts us front k l e =
-    past_term (frame ∷ frames) no_sum (ts ++ us) [] front (one_inside frame frames ts us l k) sum_none (append-nil _ ∙ e)
-
--- an atom with its minus signs
-factor_of : (signs : ℕ) (n : Number) (ts : List TokenKind) → SpellsFactor ts n → SpellsFactor (signs_of signs ++ ts) (signed_by signs n)
-factor_of zero n ts k = k
-factor_of (suc signs) n ts k = rw append_assoc (factor_of signs (negative n) (token.Sign sign.Minus ∷ ts) (minus_sign ts n k))
-
--- a term that a factor ends
-term_of : (product : Product) (n : Number) (ts us : List TokenKind) → SpellsProduct product ts → SpellsFactor us n
-    → SpellsTerm (ts ++ us) (multiplied product n)
-term_of _ n _ us product_none k = one_factor us n k
-term_of _ n _ us (product_of_times ts a l) k = rw append_assoc (times ts us a n l k)
-term_of _ n _ us (product_of_over ts a l) k = rw append_assoc (over ts us a n l k)
-
--- a number that a term ends
-number_of : (sum : Sum) (n : Number) (ts us : List TokenKind) → SpellsSum sum ts → SpellsTerm us n → SpellsNumber (ts ++ us) (summed sum n)
-number_of _ n _ us sum_none k = one_term us n k
-number_of _ n _ us (sum_of_plus ts a l) k = rw append_assoc (plus ts us a n l k)
-number_of _ n _ us (sum_of_minus ts a l) k = rw append_assoc (minus ts us a n l k)
-
--- a statement with its number
-simple_of : (head : Head) (n : Number) (ts us : List TokenKind) → SpellsHead head ts → SpellsNumber us n → SpellsSimple (ts ++ us) (headed head n)
-simple_of _ n _ us (head_assigns name k) l = assignment name us n k l
-simple_of _ n _ us (head_pays leg k) l = payment leg us n k l
-
--- the arguments of a choice, with one more
-arguments_of : (op : Operator) (first n : Number) (ts us : List TokenKind) → SpellsFirst op (Some first) ts → SpellsNumber us n
-    → SpellsArguments op (ts ++ us) (binary op first n)
-arguments_of _ _ n _ us (one_first op ts a k) l = rw append_assoc (two op ts us a n k l)
-arguments_of _ _ n _ us (more_first op ts a k) l = rw append_assoc (one_more_number op ts us a n k l)
-
--- the same, with its comma
-first_of_more : (op : Operator) (first : Option Number) (n : Number) (ts us : List TokenKind) → SpellsFirst op first ts → SpellsNumber us n
-    → SpellsFirst op (Some (with_argument op first n)) (ts ++ (us ++ token.Sign sign.Comma ∷ []))
-first_of_more op None n _ us (no_first _) l = one_first op us n l
-first_of_more op (Some first) n ts us k l = rw (← append_assoc) (more_first op (ts ++ us) (binary op first n) (arguments_of op first n ts us k l))
-
--- a choice with its word and bracket
-choice_of : (op : Operator) (k : Key) (ts : List TokenKind) (n : Number) → IsChoice op k → SpellsArguments op ts n → SpellsAtom (token.Key k ∷ bracketed ts) n
-choice_of _ _ ts n is_least l = of_least ts n l
-choice_of _ _ ts n is_greatest l = of_greatest ts n l
-
--- a call without arguments
-call_of : (number : Number) (k : Key) → IsCall number k → SpellsAtom (token.Key k ∷ bracketed []) number
-call_of _ _ is_spot = of_spot
-call_of _ _ is_period = of_period
-call_of _ _ is_days = of_days
+use Rattle.pay_parser.proofs.PlaceSpelled.{SpellsSum, sum_none, sum_of_plus, sum_of_minus, product_none, product_of_times, product_of_over, signs_of}
+use Rattle.pay_parser.proofs.PlaceSpelled.{SpellsBefore, stands_left, no_or, no_and, nots_of, SpellsLogic, logic_left, opening_of, SpellsOwner}
+use Rattle.pay_parser.proofs.PlaceSpelled.{owner_item, owner_yes, owner_no, head_assigns, head_pays, is_least, is_greatest, no_first, SpellsWord}
+use Rattle.pay_parser.proofs.PlaceSpelled.{word_absolute, word_choice, SpellsFrame, frame_script, frame_body, frame_statement, frame_condition}
+use Rattle.pay_parser.proofs.PlaceSpelled.{frame_comparison, frame_bracket, frame_absolute, frame_choice, SpellsFrames, none_open, one_inside, IsCall}
+use Rattle.pay_parser.proofs.PlaceSpelled.{is_spot, is_period, is_days, SpellsMode, at_free, at_name, at_atom, at_factor, at_condition, at_word}
+use Rattle.pay_parser.proofs.PlaceSpelled.{at_call, at_bracket, Past, past, past_choice, past_is, past_choice_is, past_inside, past_term, past_fresh}
+use Rattle.pay_parser.proofs.PlaceSpelled.{factor_of, term_of, number_of, whole_condition, nothing_left, left_and, left_or, left_not, nothing_before}
+use Rattle.pay_parser.proofs.PlaceSpelled.{compare_before, simple_of, arguments_of, first_of_more, choice_of, call_of}
 
 -- what holds of an option's value holds of what is made from it
 some_map : {A B : Type 0} (P : A → Type 0) (Q : B → Type 0) (f : A → B) (o : Option A) → IfSome o P → ((x : A) → P x → Q (f x)) → IfSome (option_map f o) Q
@@ -189,12 +48,13 @@ some_then : {A B : Type 0} (P : A → Type 0) (Q : B → Type 0) (f : A → Opti
 some_then P Q f None k go = tt
 some_then P Q f (Some x) k go = go x k
 
--- one more statement in the item that is open
+-- one more statement among those that are open
 more_spelled : (frames : List Frame) (s : Statement) (ts us : List TokenKind) → SpellsFrames frames ts → SpellsStatement us s
     → IfSome (with_statement frames s) (λ longer. SpellsFrames longer (ts ++ us))
-more_spelled _ s _ us (one_inside _ frames ts _ (frame_item date body bs l) k) m =
-    let item = frame_item date (and_then body s) (bs ++ us) (one_more bs us body s l m) in
-    rw append_assoc (one_inside (an_item date (and_then body s)) frames ts (token.Date date ∷ (bs ++ us)) item k)
+more_spelled _ s _ us (one_inside _ frames ts _ (frame_body owner body os bs o l) k) m =
+    let longer = frame_body owner (and_then body s) os (bs ++ us) o (one_more bs us body s l m) in
+    let e : ts ++ (os ++ (bs ++ us)) ≡ (ts ++ (os ++ bs)) ++ us = simp append_assoc in
+    rw e at (one_inside (a_body owner (and_then body s)) frames ts (os ++ (bs ++ us)) longer k)
 more_spelled _ s _ us _ m = tt
 
 -- a statement that a number ends, with these tokens after it
@@ -208,12 +68,12 @@ ended_spelled after_it whole _ n _ us _ m = tt
 
 ended_bare : (frames : List Frame) (n : Number) (ts us : List TokenKind) → SpellsFrames frames ts → SpellsNumber us n
     → IfSome (ended frames n) (λ rest. SpellsFrames rest (ts ++ us))
-ended_bare frames n ts us k l = rw append-nil at (ended_spelled [] (λ vs s m. rw append-nil (bare vs s m)) frames n ts us k l)
+ended_bare frames n ts us k l = rw append-nil at (ended_spelled [] (λ vs s m. rw append-nil (simple vs s m)) frames n ts us k l)
 
 -- the script that may end between statements
 closed_spelled : (frames : List Frame) (ts : List TokenKind) → SpellsFrames frames ts → IfSome (closed frames) (λ s. SpellsScript ts s)
 closed_spelled _ _ (one_inside _ _ _ _ (frame_script items ts k) none_open) = k
-closed_spelled _ _ (one_inside _ _ _ _ (frame_item date body us l) (one_inside _ _ _ _ (frame_script items ts k) none_open)) =
+closed_spelled _ _ (one_inside _ _ _ _ (frame_body _ body _ us (owner_item date) l) (one_inside _ _ _ _ (frame_script items ts k) none_open)) =
     one_more_item ts (token.Date date ∷ us) items (plain date body) k (of_date date us body l)
 closed_spelled _ _ _ = tt
 
@@ -221,8 +81,8 @@ closed_spelled _ _ _ = tt
 past_date : (items : Script) (date : Day) (ts : List TokenKind) → SpellsScript ts items → Past (dated date items) (ts ++ token.Date date ∷ [])
 past_date items date ts k =
     let before_it = one_inside (a_script items) [] [] ts (frame_script items ts k) none_open in
-    past_inside (an_item date done) (a_script items ∷ []) free ts (token.Date date ∷ []) [] _ before_it
-    (frame_item date done [] no_statement) at_free (append-nil _)
+    past_inside (a_body (of_item date) done) (a_script items ∷ []) free ts (token.Date date ∷ []) [] _ before_it
+    (frame_body (of_item date) done (token.Date date ∷ []) [] (owner_item date) no_statement) at_free (append-nil _)
 
 -- a test that leads on, where it holds
 past_chosen : (test : Bool) (to : State) (front : List TokenKind) → (IsTrue test → Past to front)
@@ -232,11 +92,35 @@ past_chosen false to front k = tt
 
 past_word : (frames : List Frame) (ts : List TokenKind) (letters : List ℕ) → SpellsFrames frames ts
     → IfSome (step_word frames letters) (λ place. Past place (ts ++ token.Word letters ∷ []))
-past_word _ _ letters (one_inside _ frames ts _ (frame_item date body us l) k) =
-    past_chosen (is_name letters) (state (an_item date body ∷ frames) (named letters)) _
-    (λ h. past_inside (an_item date body) frames (named letters) ts (token.Date date ∷ us) (token.Word letters ∷ []) _ k
-    (frame_item date body us l) (at_name letters h) refl)
+past_word _ _ letters (one_inside _ frames ts _ (frame_body owner body os us o l) k) =
+    past_chosen (is_name letters) (state (a_body owner body ∷ frames) (named letters)) _
+    (λ h. past_inside (a_body owner body) frames (named letters) ts (os ++ us) (token.Word letters ∷ []) _ k
+    (frame_body owner body os us o l) (at_name letters h) refl)
 past_word _ _ letters _ = tt
+
+-- after `if`
+past_if : (frames : List Frame) (ts : List TokenKind) → SpellsFrames frames ts → IfSome (step_if frames) (λ place. Past place (ts ++ token.Key key.If ∷ []))
+past_if _ _ (one_inside _ frames ts _ (frame_body owner body os us o l) k) =
+    let inside = one_inside (a_body owner body) frames ts (os ++ us) (frame_body owner body os us o l) k in
+    past_fresh (a_condition of_if no_logic) (a_body owner body ∷ frames) (ts ++ (os ++ us)) _ _ inside (frame_condition of_if no_logic [] nothing_left) refl
+past_if _ _ _ = tt
+
+-- after `else`
+past_else : (frames : List Frame) (ts : List TokenKind) → SpellsFrames frames ts
+    → IfSome (step_else frames) (λ place. Past place (ts ++ token.Key key.Else ∷ []))
+past_else _ _ (one_inside _ frames ts _ (frame_body _ body _ us (owner_yes c cs i) l) k) =
+    past_inside (a_body (of_no c body) done) frames free ts _ [] _ k (frame_body (of_no c body) done _ [] (owner_no c body cs us i l) no_statement) at_free
+    (simp (append_assoc, append-nil))
+past_else _ _ _ = tt
+
+-- after `endif`
+past_endif : (frames : List Frame) (ts : List TokenKind) → SpellsFrames frames ts
+    → IfSome (step_endif frames) (λ place. Past place (ts ++ token.Key key.Endif ∷ []))
+past_endif _ _ (one_inside _ _ _ _ (frame_body _ a _ us (owner_yes c cs i) l) (one_inside _ frames ts _ (frame_body owner body os bs o m) k)) =
+    past_choice_is frames owner body _ ts os bs _ _ k o m (without_else cs us c a i l) (simp append_assoc)
+past_endif _ _ (one_inside _ _ _ _ (frame_body _ b _ vs (owner_no c a cs us i j) l) (one_inside _ frames ts _ (frame_body owner body os bs o m) k)) =
+    past_choice_is frames owner body _ ts os bs _ _ k o m (with_else cs us vs c a b i j l) (simp append_assoc)
+past_endif _ _ _ = tt
 
 past_free : (frames : List Frame) (ts : List TokenKind) (t : TokenKind) → SpellsFrames frames ts
     → IfSome (step_free frames t) (λ place. Past place (ts ++ t ∷ []))
@@ -244,7 +128,29 @@ past_free frames ts (token.Date date) k =
     some_map (λ s. SpellsScript ts s) (λ place. Past place (ts ++ token.Date date ∷ [])) (dated date) (closed frames)
     (closed_spelled frames ts k) (λ items l. past_date items date ts l)
 past_free frames ts (token.Word letters) k = past_word frames ts letters k
+past_free frames ts (token.Key key.If) k = past_if frames ts k
+past_free frames ts (token.Key key.Else) k = past_else frames ts k
+past_free frames ts (token.Key key.Endif) k = past_endif frames ts k
 past_free frames ts _ k = tt
+
+-- what is open after an `if`, with its `;` and without
+choice_inside : (frames : List Frame) (owner : Owner) (body : Body) (s : Statement) (ts us vs ws front : List TokenKind) → SpellsFrames frames ts
+    → SpellsOwner owner us → SpellsBody vs body → SpellsStatement ws s → ts ++ (us ++ (vs ++ ws)) ≡ front
+    → SpellsFrames (a_body owner (and_then body s) ∷ frames) front
+choice_inside frames owner body s ts us vs ws front k o l m e =
+    rw e at (one_inside (a_body owner (and_then body s)) frames ts _ (frame_body owner _ us (vs ++ ws) o (one_more vs ws body s l m)) k)
+
+-- after `endif`
+past_after_endif : (frames : List Frame) (owner : Owner) (body : Body) (s : Statement) (ts us vs ws : List TokenKind) (t : TokenKind)
+    → SpellsFrames frames ts → SpellsOwner owner us → SpellsBody vs body → SpellsChoice ws s
+    → IfSome (step_after_endif (a_body owner (and_then body s) ∷ frames) t) (λ place. Past place ((ts ++ (us ++ (vs ++ ws))) ++ t ∷ []))
+past_after_endif frames owner body s ts us vs ws (token.Sign sign.Semicolon) k o l m =
+    let mark = token.Sign sign.Semicolon ∷ [] in
+    past_is _ free _ [] _ (choice_inside frames owner body s ts us vs (ws ++ mark) ((ts ++ (us ++ (vs ++ ws))) ++ mark) k o l (choice_ended ws s m)
+    (simp append_assoc)) at_free (append-nil _)
+past_after_endif frames owner body s ts us vs ws t k o l m =
+    past_free (a_body owner (and_then body s) ∷ frames) (ts ++ (us ++ (vs ++ ws))) t
+    (choice_inside frames owner body s ts us vs ws (ts ++ (us ++ (vs ++ ws))) k o l (choice ws s m) refl)
 
 past_named : (frames : List Frame) (name : List ℕ) (ts : List TokenKind) (t : TokenKind) → SpellsFrames frames ts → IsName name
     → IfSome (step_named frames name t) (λ place. Past place ((ts ++ token.Word name ∷ []) ++ t ∷ []))
@@ -272,6 +178,30 @@ past_sign : (frames : List Frame) (left : Before) (ts us : List TokenKind) → S
 past_sign frames _ ts _ k (stands_left sum product signs us ps l m) =
     past_is frames _ ts _ _ k (at_atom _ _ (stands_left sum product (suc signs) us ps l m)) (simp append_assoc)
 
+-- after `(`, which opens a condition where a comparison may begin
+past_either : (test : Bool) (one other : State) (front : List TokenKind) → (IsTrue test → Past one front) → Past other front
+    → Past (if test then one else other) front
+past_either true one other front k l = k refl
+past_either false one other front k l = l
+
+past_open : (frames : List Frame) (left : Before) (ts us : List TokenKind) → SpellsFrames frames ts → SpellsBefore left us
+    → Past (step_open frames left) ((ts ++ us) ++ token.Sign sign.ParenLeft ∷ [])
+past_open frames left ts us k l =
+    past_either (may_compare frames left) (state (a_condition of_bracket no_logic ∷ frames) (factor_next fresh))
+    (state (a_bracket left ∷ frames) (factor_next fresh)) _
+    (λ h. past_fresh (a_condition of_bracket no_logic) frames ts _ _ k (frame_condition of_bracket no_logic [] nothing_left)
+    (rw (compare_before frames left us h l) (simp append-nil)))
+    (past_fresh (a_bracket left) frames ts _ _ k (frame_bracket left us l) (simp append_assoc))
+
+-- after `not`
+past_not : (frames : List Frame) (left : Before) (ts us : List TokenKind) → SpellsFrames frames ts → SpellsBefore left us
+    → IfSome (step_not frames left) (λ place. Past place ((ts ++ us) ++ token.Key key.Not ∷ []))
+past_not _ left _ us (one_inside _ frames ts _ (frame_condition opening logic vs i) k) l =
+    past_chosen (is_fresh left) (state (a_condition opening (with_not logic) ∷ frames) (factor_next fresh)) _
+    (λ h. past_fresh (a_condition opening (with_not logic)) frames ts _ _ k (frame_condition opening _ _ (left_not logic vs i))
+    (rw (nothing_before left us h l) (simp (append_assoc, append-nil))))
+past_not _ left _ us _ l = tt
+
 past_want : (frames : List Frame) (left : Before) (ts us : List TokenKind) (t : TokenKind) → SpellsFrames frames ts → SpellsBefore left us
     → IfSome (step_factor frames left t) (λ place. Past place ((ts ++ us) ++ t ∷ []))
 past_want frames left ts us (token.Number digits) k l = past_literal frames left ts us digits (decimal_in digits) k l refl
@@ -279,8 +209,7 @@ past_want frames left ts us (token.Word name) k l =
     past_chosen (is_name name) (arrived frames left (variable name)) _
     (λ h. past_arrived frames left (variable name) ts us (token.Word name ∷ []) _ k l (of_variable name h) (simp append_assoc))
 past_want frames left ts us (token.Sign sign.Minus) k l = past_sign frames left ts us k l
-past_want frames left ts us (token.Sign sign.ParenLeft) k l =
-    past_fresh (a_bracket left) frames ts _ _ k (frame_bracket left us l) (simp append_assoc)
+past_want frames left ts us (token.Sign sign.ParenLeft) k l = past_open frames left ts us k l
 past_want frames left ts us (token.Key key.Min) k l =
     past_is frames _ ts _ _ k (at_word _ _ (word_choice least key.Min left us is_least l)) (simp append_assoc)
 past_want frames left ts us (token.Key key.Max) k l =
@@ -289,6 +218,7 @@ past_want frames left ts us (token.Key key.Abs) k l = past_is frames _ ts _ _ k 
 past_want frames left ts us (token.Key key.Spot) k l = past_is frames _ ts _ _ k (at_call spot key.Spot left us is_spot l) (simp append_assoc)
 past_want frames left ts us (token.Key key.Period) k l = past_is frames _ ts _ _ k (at_call period key.Period left us is_period l) (simp append_assoc)
 past_want frames left ts us (token.Key key.Days) k l = past_is frames _ ts _ _ k (at_call days key.Days left us is_days l) (simp append_assoc)
+past_want frames left ts us (token.Key key.Not) k l = past_not frames left ts us k l
 past_want frames left ts us _ k l = tt
 
 -- the frame that a word and its bracket open
@@ -316,6 +246,71 @@ past_call_opened frames number word left ts us (token.Sign sign.ParenRight) k c 
     past_arrived frames left number ts us _ _ k l (call_of number word c) (simp append_assoc)
 past_call_opened frames number word left ts us _ k c l = tt
 
+-- after a comparison or a condition in brackets: `)`, `then`, `and` or `or`
+past_group : (frames : List Frame) (c : Condition) (ts us : List TokenKind) → SpellsFrames frames ts → SpellsNegation us c
+    → IfSome (step_group frames c) (λ place. Past place ((ts ++ us) ++ token.Sign sign.ParenRight ∷ []))
+past_group _ c _ us (one_inside _ frames ts _ (frame_condition of_bracket logic vs i) k) l =
+    let whole = condition_in_brackets (vs ++ us) (condition_of logic c) (whole_condition logic c vs us i l) in
+    past_is frames _ ts _ _ k (at_condition _ _ whole) (simp append_assoc)
+past_group _ c _ us _ l = tt
+
+past_then : (frames : List Frame) (c : Condition) (ts us : List TokenKind) → SpellsFrames frames ts → SpellsNegation us c
+    → IfSome (step_then frames c) (λ place. Past place ((ts ++ us) ++ token.Key key.Then ∷ []))
+past_then _ c _ us (one_inside _ frames ts _ (frame_condition of_if logic vs i) k) l =
+    let owner = owner_yes (condition_of logic c) (vs ++ us) (whole_condition logic c vs us i l) in
+    past_inside _ frames free ts _ [] _ k (frame_body _ done _ [] owner no_statement) at_free (simp (append_assoc, append-nil))
+past_then _ c _ us _ l = tt
+
+past_and : (frames : List Frame) (c : Condition) (ts us : List TokenKind) → SpellsFrames frames ts → SpellsNegation us c
+    → IfSome (step_and frames c) (λ place. Past place ((ts ++ us) ++ token.Key key.And ∷ []))
+past_and _ c _ us (one_inside _ frames ts _ (frame_condition opening logic vs i) k) l =
+    past_fresh _ frames ts _ _ k (frame_condition opening (with_and logic c) _ (left_and logic c vs us i l)) (simp append_assoc)
+past_and _ c _ us _ l = tt
+
+past_or : (frames : List Frame) (c : Condition) (ts us : List TokenKind) → SpellsFrames frames ts → SpellsNegation us c
+    → IfSome (step_or frames c) (λ place. Past place ((ts ++ us) ++ token.Key key.Or ∷ []))
+past_or _ c _ us (one_inside _ frames ts _ (frame_condition opening logic vs i) k) l =
+    past_fresh _ frames ts _ _ k (frame_condition opening (with_or logic c) _ (left_or logic c vs us i l)) (simp append_assoc)
+past_or _ c _ us _ l = tt
+
+past_condition : (frames : List Frame) (c : Condition) (ts us : List TokenKind) (t : TokenKind) → SpellsFrames frames ts → SpellsNegation us c
+    → IfSome (step_condition frames c t) (λ place. Past place ((ts ++ us) ++ t ∷ []))
+past_condition frames c ts us (token.Sign sign.ParenRight) k l = past_group frames c ts us k l
+past_condition frames c ts us (token.Key key.Then) k l = past_then frames c ts us k l
+past_condition frames c ts us (token.Key key.And) k l = past_and frames c ts us k l
+past_condition frames c ts us (token.Key key.Or) k l = past_or frames c ts us k l
+past_condition frames c ts us _ k l = tt
+
+-- after the right number of a comparison
+past_compared : (frames : List Frame) (n : Number) (ts us : List TokenKind) (t : TokenKind) → SpellsFrames frames ts → SpellsNumber us n
+    → IfSome (step_compared frames n t) (λ place. Past place ((ts ++ us) ++ t ∷ []))
+past_compared _ n _ us t (one_inside _ frames ts _ (frame_comparison op left vs i) k) m =
+    let e : (ts ++ (vs ++ token.Sign (sign_of op) ∷ us)) ++ t ∷ [] ≡ ((ts ++ (vs ++ token.Sign (sign_of op) ∷ [])) ++ us) ++ t ∷ [] = simp append_assoc in
+    rw e at (past_condition frames (compare op left n bare) ts (vs ++ token.Sign (sign_of op) ∷ us) t k (two_numbers op vs us left n i m))
+past_compared _ n _ us t _ m = tt
+
+-- after the sign of a comparison
+past_comparison : (frames : List Frame) (n : Number) (op : Comparison) (ts us : List TokenKind) → SpellsFrames frames ts → SpellsNumber us n
+    → IfSome (step_comparison frames n op) (λ place. Past place ((ts ++ us) ++ token.Sign (sign_of op) ∷ []))
+past_comparison _ n op _ us (one_inside _ frames ts _ (frame_condition opening logic vs i) k) m =
+    let inside = one_inside _ frames ts _ (frame_condition opening logic vs i) k in
+    past_fresh (a_comparison op n) (a_condition opening logic ∷ frames) _ _ _ inside (frame_comparison op n us m) (simp append_assoc)
+past_comparison _ n op _ us _ m = tt
+
+-- after `)` and a number that is all of a bracket
+past_plain_group : (nots : ℕ) (frames : List Frame) (n : Number) (ts us : List TokenKind) → SpellsFrames frames ts → SpellsNumber us n
+    → IfSome (step_number_group of_bracket (a_logic None None nots) frames n)
+    (λ place. Past place (((ts ++ token.Sign sign.ParenLeft ∷ nots_of nots) ++ us) ++ token.Sign sign.ParenRight ∷ []))
+past_plain_group zero frames n ts us k m =
+    past_arrived frames fresh n ts [] _ _ k (stands_left no_sum no_product 0 [] [] sum_none product_none) (in_brackets us n m) (simp append_assoc)
+past_plain_group (suc nots) frames n ts us k m = tt
+
+past_number_group : (opening : Opening) (logic : Logic) (frames : List Frame) (n : Number) (ts us vs : List TokenKind) → SpellsFrames frames ts
+    → SpellsLogic logic vs → SpellsNumber us n
+    → IfSome (step_number_group opening logic frames n) (λ place. Past place (((ts ++ opening_of opening ∷ vs) ++ us) ++ token.Sign sign.ParenRight ∷ []))
+past_number_group of_bracket _ frames n ts us _ k (logic_left _ _ nots _ _ no_or no_and) m = past_plain_group nots frames n ts us k m
+past_number_group opening logic frames n ts us vs k l m = tt
+
 -- after `)`
 past_close : (frames : List Frame) (n : Number) (ts us : List TokenKind) → SpellsFrames frames ts → SpellsNumber us n
     → IfSome (step_close frames n) (λ place. Past place ((ts ++ us) ++ token.Sign sign.ParenRight ∷ []))
@@ -326,6 +321,11 @@ past_close _ n _ us (one_inside _ frames ts _ (frame_absolute left vs l) k) m =
 past_close _ n _ us (one_inside _ frames ts _ (frame_choice op word left (Some first) vs ws c l i) k) m =
     let whole = choice_of op word (ws ++ us) (binary op first n) c (arguments_of op first n ws us i m) in
     past_arrived frames left (binary op first n) ts vs _ _ k l whole (simp append_assoc)
+past_close _ n _ us (one_inside _ frames ts _ (frame_comparison op left vs i) k) m =
+    let e : (ts ++ (vs ++ token.Sign (sign_of op) ∷ us)) ++ token.Sign sign.ParenRight ∷ []
+            ≡ ((ts ++ (vs ++ token.Sign (sign_of op) ∷ [])) ++ us) ++ token.Sign sign.ParenRight ∷ [] = simp append_assoc in
+    rw e at (past_group frames (compare op left n bare) ts (vs ++ token.Sign (sign_of op) ∷ us) k (two_numbers op vs us left n i m))
+past_close _ n _ us (one_inside _ frames ts _ (frame_condition opening logic vs i) k) m = past_number_group opening logic frames n ts us vs k i m
 past_close _ n _ us _ m = tt
 
 -- after `,`
@@ -341,7 +341,7 @@ past_semicolon : (frames : List Frame) (n : Number) (ts us : List TokenKind) →
 past_semicolon frames n ts us k l =
     let mark = token.Sign sign.Semicolon ∷ [] in
     some_map (λ rest. SpellsFrames rest (ts ++ (us ++ mark))) (λ place. Past place ((ts ++ us) ++ mark)) (λ rest. state rest free) (ended frames n)
-    (ended_spelled mark with_semicolon frames n ts us k l) (λ rest m. past_is rest free _ [] _ m at_free (simp (append_assoc, append-nil)))
+    (ended_spelled mark simple_ended frames n ts us k l) (λ rest m. past_is rest free _ [] _ m at_free (simp (append_assoc, append-nil)))
 
 -- after what begins the next item or statement
 past_ended : (frames : List Frame) (n : Number) (ts us : List TokenKind) (t : TokenKind) → SpellsFrames frames ts → SpellsNumber us n
@@ -363,10 +363,34 @@ past_after frames sum term ts us vs (token.Sign sign.Slash) k l m =
 past_after frames sum term ts us vs (token.Sign sign.ParenRight) k l m = past_close frames (summed sum term) ts (us ++ vs) k (number_of sum term us vs l m)
 past_after frames sum term ts us vs (token.Sign sign.Comma) k l m = past_comma frames (summed sum term) ts (us ++ vs) k (number_of sum term us vs l m)
 past_after frames sum term ts us vs (token.Sign sign.Semicolon) k l m = past_semicolon frames (summed sum term) ts (us ++ vs) k (number_of sum term us vs l m)
+past_after frames sum term ts us vs (token.Sign sign.Less) k l m =
+    past_comparison frames (summed sum term) less ts (us ++ vs) k (number_of sum term us vs l m)
+past_after frames sum term ts us vs (token.Sign sign.LessEq) k l m =
+    past_comparison frames (summed sum term) at_most ts (us ++ vs) k (number_of sum term us vs l m)
+past_after frames sum term ts us vs (token.Sign sign.More) k l m =
+    past_comparison frames (summed sum term) greater ts (us ++ vs) k (number_of sum term us vs l m)
+past_after frames sum term ts us vs (token.Sign sign.MoreEq) k l m =
+    past_comparison frames (summed sum term) at_least ts (us ++ vs) k (number_of sum term us vs l m)
+past_after frames sum term ts us vs (token.Sign sign.Equals) k l m =
+    past_comparison frames (summed sum term) equals ts (us ++ vs) k (number_of sum term us vs l m)
+past_after frames sum term ts us vs (token.Sign sign.Differs) k l m =
+    past_comparison frames (summed sum term) differs ts (us ++ vs) k (number_of sum term us vs l m)
 past_after frames sum term ts us vs (token.Date date) k l m =
     past_ended frames (summed sum term) ts (us ++ vs) (token.Date date) k (number_of sum term us vs l m)
 past_after frames sum term ts us vs (token.Word letters) k l m =
     past_ended frames (summed sum term) ts (us ++ vs) (token.Word letters) k (number_of sum term us vs l m)
+past_after frames sum term ts us vs (token.Key key.If) k l m =
+    past_ended frames (summed sum term) ts (us ++ vs) (token.Key key.If) k (number_of sum term us vs l m)
+past_after frames sum term ts us vs (token.Key key.Else) k l m =
+    past_ended frames (summed sum term) ts (us ++ vs) (token.Key key.Else) k (number_of sum term us vs l m)
+past_after frames sum term ts us vs (token.Key key.Endif) k l m =
+    past_ended frames (summed sum term) ts (us ++ vs) (token.Key key.Endif) k (number_of sum term us vs l m)
+past_after frames sum term ts us vs (token.Key key.Then) k l m =
+    past_compared frames (summed sum term) ts (us ++ vs) (token.Key key.Then) k (number_of sum term us vs l m)
+past_after frames sum term ts us vs (token.Key key.And) k l m =
+    past_compared frames (summed sum term) ts (us ++ vs) (token.Key key.And) k (number_of sum term us vs l m)
+past_after frames sum term ts us vs (token.Key key.Or) k l m =
+    past_compared frames (summed sum term) ts (us ++ vs) (token.Key key.Or) k (number_of sum term us vs l m)
 past_after frames sum term ts us vs _ k l m = tt
 
 past_in : (frames : List Frame) (mode : Mode) (ts us : List TokenKind) (t : TokenKind) → SpellsFrames frames ts → SpellsMode mode us
@@ -375,6 +399,7 @@ past_in frames _ ts _ t k at_free = rw append-nil (past_free frames ts t k)
 past_in frames _ ts _ t k (at_name name h) = past_named frames name ts t k h
 past_in frames _ ts _ t k (at_atom left us l) = past_want frames left ts us t k l
 past_in frames _ ts _ t k (at_factor sum term us vs l m) = past_after frames sum term ts us vs t k l m
+past_in frames _ ts _ t k (at_condition c us l) = past_condition frames c ts us t k l
 past_in frames _ ts _ t k (at_word frame us l) = past_opens frames frame ts us t k l
 past_in frames _ ts _ t k (at_call number word left us c l) = past_call_named frames number word left ts us t k c l
 past_in frames _ ts _ t k (at_bracket number word left us c l) = past_call_opened frames number word left ts us t k c l
@@ -382,6 +407,7 @@ past_in frames _ ts _ t k (at_bracket number word left us c l) = past_call_opene
 -- a token that is taken leads on
 past_step : (place : State) (front : List TokenKind) (t : TokenKind) → Past place front → IfSome (step place t) (λ next. Past next (front ++ t ∷ []))
 past_step _ _ t (past frames mode ts us k l) = past_in frames mode ts us t k l
+past_step _ _ t (past_choice frames owner body s ts us vs ws k o l m) = past_after_endif frames owner body s ts us vs ws t k o l m
 
 -- the script that ends at what is awaited
 end_in : (frames : List Frame) (mode : Mode) (ts us : List TokenKind) → SpellsFrames frames ts → SpellsMode mode us
@@ -395,13 +421,16 @@ end_in frames _ ts _ k _ = tt
 -- a script that ends at a place is spelled by the tokens that lead there
 past_end : (place : State) (front : List TokenKind) → Past place front → IfSome (finish place) (λ s. SpellsScript front s)
 past_end _ _ (past frames mode ts us k l) = end_in frames mode ts us k l
+past_end _ _ (past_choice frames owner body s ts us vs ws k o l m) =
+    closed_spelled (a_body owner (and_then body s) ∷ frames) (ts ++ (us ++ (vs ++ ws)))
+    (choice_inside frames owner body s ts us vs ws (ts ++ (us ++ (vs ++ ws))) k o l (choice ws s m) refl)
 
 -- what is read from a place on
 past_read_on : (place : State) (front ts : List TokenKind) → Past place front → IfSome (read_on place ts) (λ s. SpellsScript (front ++ ts) s)
 past_read_on place front [] k = rw append-nil (past_end place front k)
 past_read_on place front (t ∷ ts) k =
-    some_then (λ next. Past next (front ++ t ∷ [])) (λ s. SpellsScript (front ++ t ∷ ts) s) (λ next. read_on next ts) (step place t) (past_step place front t k)
-    (λ next l. rw append_assoc at (past_read_on next (front ++ t ∷ []) ts l))
+    some_then (λ next. Past next (front ++ t ∷ [])) (λ s. SpellsScript (front ++ t ∷ ts) s) (λ next. read_on next ts) (step place t)
+    (past_step place front t k) (λ next l. rw append_assoc at (past_read_on next (front ++ t ∷ []) ts l))
 
 -- nothing leads to the place before a script
 past_start : Past start []
