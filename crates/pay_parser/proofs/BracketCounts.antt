@@ -185,12 +185,16 @@ condition_stays most (compare op left right note) n rest small h =
     regrouped most n (number_tokens left) (token.Sign (sign_of op) ∷ number_tokens right) rest
     (number_stays most left n (token.Sign (sign_of op) ∷ (number_tokens right ++ rest)) (omega arith) between)
 condition_stays most (negation side) n rest small h = (omega arith, condition_stays most side n rest small h)
-condition_stays most (conjunction left right) n rest small h =
-    (omega arith, pair_stays most n (token.Key key.And) (condition_tokens left) (condition_tokens right) rest refl (omega arith)
-    (λ more k. condition_stays most left (suc n) more (omega arith) k) (λ more k. condition_stays most right (suc n) more (omega arith) k) h)
-condition_stays most (disjunction left right) n rest small h =
-    (omega arith, pair_stays most n (token.Key key.Or) (condition_tokens left) (condition_tokens right) rest refl (omega arith)
-    (λ more k. condition_stays most left (suc n) more (omega arith) k) (λ more k. condition_stays most right (suc n) more (omega arith) k) h)
+condition_stays most (conjunction left right) n rest small h = (
+  omega arith,
+  pair_stays most n (token.Key key.And) (condition_tokens left) (condition_tokens right) rest refl (omega arith)
+      (λ more k. condition_stays most left (suc n) more (omega arith) k) (λ more k. condition_stays most right (suc n) more (omega arith) k) h,
+)
+condition_stays most (disjunction left right) n rest small h = (
+  omega arith,
+  pair_stays most n (token.Key key.Or) (condition_tokens left) (condition_tokens right) rest refl (omega arith)
+      (λ more k. condition_stays most left (suc n) more (omega arith) k) (λ more k. condition_stays most right (suc n) more (omega arith) k) h,
+)
 condition_stays most (settled answer) n rest small h = h
 condition_stays most (sure answer side) n rest small h = condition_stays most side n rest small h
 

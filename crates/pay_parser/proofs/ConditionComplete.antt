@@ -75,7 +75,7 @@ bracket_read ts n r _ _ rest (in_condition opening logic outer) = closes ts n r 
 bracket_read ts n r _ _ rest (in_number frames left e) =
     let to = state (a_bracket left ∷ frames) (factor_next fresh) in
     read_step (state frames (factor_next left)) (token.Sign sign.ParenLeft) to ((ts ++ token.Sign sign.ParenRight ∷ []) ++ rest) (rw e refl)
-        ∙ closes ts n r (a_bracket left ∷ frames) rest
+    ∙ closes ts n r (a_bracket left ∷ frames) rest
 
 mutual
   pub number_read : (ts : List TokenKind) (n : Number) → SpellsNumber ts n → Reads ts n

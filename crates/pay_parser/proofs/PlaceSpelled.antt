@@ -224,7 +224,7 @@ pub left_and : (logic : Logic) (c : Condition) (ts us : List TokenKind) → Spel
 left_and _ c _ us (logic_left ors ands nots os bs k l) m =
     let last = conjunction_of ands (negated_by nots c) bs (nots_of nots ++ us) l (negation_of nots c us m) in
     let e : os ++ (((bs ++ (nots_of nots ++ us)) ++ token.Key key.And ∷ []) ++ []) ≡ (os ++ (bs ++ nots_of nots)) ++ (us ++ token.Key key.And ∷ []) =
-        simp (append_assoc, append-nil) in
+    simp (append_assoc, append-nil) in
     rw e at (logic_left ors (Some (conjoined ands (negated_by nots c))) 0 os _ k (some_and _ _ last))
 
 pub left_or : (logic : Logic) (c : Condition) (ts us : List TokenKind) → SpellsLogic logic ts → SpellsNegation us c
@@ -233,7 +233,7 @@ left_or _ c _ us (logic_left ors ands nots os bs k l) m =
     let logic = a_logic ors ands nots in
     let all = whole_condition logic c (os ++ (bs ++ nots_of nots)) us (logic_left ors ands nots os bs k l) m in
     let e : (((os ++ (bs ++ nots_of nots)) ++ us) ++ token.Key key.Or ∷ []) ++ [] ≡ (os ++ (bs ++ nots_of nots)) ++ (us ++ token.Key key.Or ∷ []) =
-        simp (append_assoc, append-nil) in
+    simp (append_assoc, append-nil) in
     rw e at (logic_left (Some (condition_of logic c)) None 0 _ [] (some_or _ _ all) no_and)
 
 pub left_not : (logic : Logic) (ts : List TokenKind) → SpellsLogic logic ts → SpellsLogic (with_not logic) (ts ++ token.Key key.Not ∷ [])

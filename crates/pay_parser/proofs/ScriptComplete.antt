@@ -129,7 +129,7 @@ if_read ts c r owner outer body place stands us rest =
     let frames = a_body owner body ∷ outer in
     let to = state (a_condition of_if no_logic ∷ frames) (factor_next fresh) in
     read_step place (token.Key key.If) to ((ts ++ token.Key key.Then ∷ us) ++ rest) (stands_if owner outer body place stands)
-        ∙ then_read ts c r frames us rest
+    ∙ then_read ts c r frames us rest
 
 mutual
   statement_read : (us : List TokenKind) (s : Statement) → SpellsStatement us s → (owner : Owner) (outer : List Frame) (body : Body) (place : State)
@@ -172,8 +172,8 @@ mutual
       let begin = state (a_body (of_yes c) done ∷ frames) free in
       let end = state (a_body owner (and_then body (choose c a done)) ∷ outer) after_endif in
       if_read ts c (condition_read ts c k) owner outer body place stands (us ++ token.Key key.Endif ∷ []) rest
-          ∙ leads_past begin us (of_yes c) frames a yes (token.Key key.Endif) [] rest end
-              (stands_endif (of_yes c) frames a yes.to yes.stands)
+      ∙ leads_past begin us (of_yes c) frames a yes (token.Key key.Endif) [] rest end
+      (stands_endif (of_yes c) frames a yes.to yes.stands)
   choice_read _ _ (with_else ts us vs c a b k m l) owner outer body place stands rest =
       let frames = a_body owner body ∷ outer in
       let yes = body_read us a m (of_yes c) frames in
@@ -182,9 +182,9 @@ mutual
       let middle = state (a_body (of_no c a) done ∷ frames) free in
       let end = state (a_body owner (and_then body (choose c a b)) ∷ outer) after_endif in
       if_read ts c (condition_read ts c k) owner outer body place stands (us ++ token.Key key.Else ∷ (vs ++ token.Key key.Endif ∷ [])) rest
-          ∙ leads_past begin us (of_yes c) frames a yes (token.Key key.Else) (vs ++ token.Key key.Endif ∷ []) rest middle
-              (stands_else (of_yes c) frames a yes.to yes.stands)
-          ∙ leads_past middle vs (of_no c a) frames b no (token.Key key.Endif) [] rest end (stands_endif (of_no c a) frames b no.to no.stands)
+      ∙ leads_past begin us (of_yes c) frames a yes (token.Key key.Else) (vs ++ token.Key key.Endif ∷ []) rest middle
+      (stands_else (of_yes c) frames a yes.to yes.stands)
+      ∙ leads_past middle vs (of_no c a) frames b no (token.Key key.Endif) [] rest end (stands_endif (of_no c a) frames b no.to no.stands)
 
   body_read : (ts : List TokenKind) (b : Body) → SpellsBody ts b → (owner : Owner) (outer : List Frame)
       → Leads (state (a_body owner done ∷ outer) free) ts owner outer b

@@ -323,7 +323,7 @@ past_close _ n _ us (one_inside _ frames ts _ (frame_choice op word left (Some f
     past_arrived frames left (binary op first n) ts vs _ _ k l whole (simp append_assoc)
 past_close _ n _ us (one_inside _ frames ts _ (frame_comparison op left vs i) k) m =
     let e : (ts ++ (vs ++ token.Sign (sign_of op) ∷ us)) ++ token.Sign sign.ParenRight ∷ []
-            ≡ ((ts ++ (vs ++ token.Sign (sign_of op) ∷ [])) ++ us) ++ token.Sign sign.ParenRight ∷ [] = simp append_assoc in
+    ≡ ((ts ++ (vs ++ token.Sign (sign_of op) ∷ [])) ++ us) ++ token.Sign sign.ParenRight ∷ [] = simp append_assoc in
     rw e at (past_group frames (compare op left n bare) ts (vs ++ token.Sign (sign_of op) ∷ us) k (two_numbers op vs us left n i m))
 past_close _ n _ us (one_inside _ frames ts _ (frame_condition opening logic vs i) k) m = past_number_group opening logic frames n ts us vs k i m
 past_close _ n _ us _ m = tt

@@ -190,7 +190,10 @@ const REFUSALS: [(&str, Refusal); 14] = [
     ("@2024-06-28 a pays (1", Refusal::NotScript),
     ("@2024-06-28 a pays min(1)", Refusal::NotScript),
     ("@2024-06-28 if (1) then endif", Refusal::NotScript),
-    ("@2024-06-28 if (1 < 2) + 3 > 0 then endif", Refusal::NotScript),
+    (
+        "@2024-06-28 if (1 < 2) + 3 > 0 then endif",
+        Refusal::NotScript,
+    ),
     ("@2024-06-28 if 1 < 2 then a pays 1", Refusal::NotScript),
     ("schedule from", Refusal::NotScript),
 ];
@@ -433,7 +436,13 @@ fn a_script_is_refused_for_its_first_fault(rt: HostRuntime) -> Result<(), Fail> 
 // What opens a form and what closes it, on both sides of a middle: as deep as the limits of tokens allow.
 const DEEPEST: [(&str, &str, &str, &str, &str); 3] = [
     ("", "if 1 = 1 then ", "a pays 1 ", "endif ", ""),
-    ("", "if 1 = 2 then a pays 2 else ", "a pays 1 ", "endif ", ""),
+    (
+        "",
+        "if 1 = 2 then a pays 2 else ",
+        "a pays 1 ",
+        "endif ",
+        "",
+    ),
     ("if ", "(", "1 = 1", ")", " then a pays 1 endif"),
 ];
 
