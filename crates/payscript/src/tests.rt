@@ -433,30 +433,32 @@ fn a_script_is_refused_for_its_first_fault(rt: HostRuntime) -> Result<(), Fail> 
     Ok(())
 }
 
-// What opens a form and what closes it, on both sides of a middle: as deep as the limits of tokens allow.
-const DEEPEST: [(&str, &str, &str, &str, &str); 3] = [
-    ("", "if 1 = 1 then ", "a pays 1 ", "endif ", ""),
+// What opens a form and what closes it, on both sides of a middle, and how often: as deep as the limits of tokens allow.
+const DEEPEST: [(&str, &str, &str, &str, &str, usize); 4] = [
+    ("", "if 1 = 1 then ", "a pays 1 ", "endif ", "", 96),
     (
         "",
         "if 1 = 2 then a pays 2 else ",
         "a pays 1 ",
         "endif ",
         "",
+        96,
     ),
-    ("if ", "(", "1 = 1", ")", " then a pays 1 endif"),
+    ("if ", "(", "1 = 1", ")", " then a pays 1 endif", 96),
+    ("if ", "(", "1 = 1", ")", " then a pays 1 endif", 100),
 ];
 
 #[test]
 fn the_deepest_ifs_and_brackets_run(rt: HostRuntime) -> Result<(), Fail> {
     let alloc = rt.alloc();
-    for (front, opening, middle, closing, back) in DEEPEST {
+    for (front, opening, middle, closing, back, count) in DEEPEST {
         let mut script = String::from_str(alloc, "@2024-06-28 ")?;
         script.push_str(front)?;
-        for _ in 0..96 {
+        for _ in 0..count {
             script.push_str(opening)?;
         }
         script.push_str(middle)?;
-        for _ in 0..96 {
+        for _ in 0..count {
             script.push_str(closing)?;
         }
         script.push_str(back)?;
