@@ -2,3 +2,6 @@
 pub mod Days
 pub mod Laws
 pub mod Parts
+pub mod RollLaws
+pub mod Rolls
+pub mod Steps

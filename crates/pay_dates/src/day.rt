@@ -1,8 +1,9 @@
 //! The day: its parts, and its number.
 
-ghost use Rattle.std.specs.Prelude.{◌≡◌, ◌↔◌, pos, IsSome, IfSome};
+ghost use Rattle.std.specs.Prelude.{◌≡◌, ◌↔◌, ◌+ℤ◌, pos, IsSome, IfSome};
 ghost use Rattle.pay_dates.specs.Days.{IsDay, IsDayOf, IsNumberOfRange, day_number};
 
+use jiff::ToSpan;
 use jiff::civil::Date;
 use std::marker::Model;
 
@@ -72,5 +73,32 @@ impl Day {
         ensures bounds { IsNumberOfRange result }
     {
         self.date.to_plain().to_unix_epoch_day()
+    }
+
+    /// The date of `jiff`.
+    pub(crate) fn date(self) -> Date
+        ensures date { result ≡ self }
+        ensures in_range { IsDay self }
+    {
+        self.date
+    }
+
+    /// The day that a date of `jiff` is.
+    pub(crate) fn from_date(date: Date) -> Day
+        requires { IsDay date }
+        ensures { result ≡ date }
+    {
+        Day { date }
+    }
+
+    /// The day so many days later, or earlier where `days` is negative.
+    pub(crate) fn shifted(self, days: i64) -> Day
+        requires { IsNumberOfRange (day_number self +ℤ days) }
+        ensures number { day_number result ≡ day_number self +ℤ days }
+        ensures in_range { IsDay result }
+    {
+        Day {
+            date: self.date + days.days(),
+        }
     }
 }

@@ -1,9 +1,11 @@
-//! Laws that show the definitions of a day's text and number to be the ones meant. Two stand on a function with an
-//! empty body, and the third on one that compares two days; the function's clauses are the law.
+//! Laws that show the definitions of a day's text and number, and of a schedule's rolls, to be the ones meant. Three
+//! stand on a function with an empty body, and one on a function that compares two days; the function's clauses
+//! are the law.
 
 ghost use Rattle.pay_dates.specs.Laws.{TextHasTenBytes, TextReadsBack, ReadingIsText, NumberNamesDay, EarlierIsSmaller, EpochIsZero, NextIsOneMore};
 ghost use Rattle.std.specs.Prelude.{◌≡◌};
 ghost use Rattle.pay_dates.specs.Days.{day_cmp};
+ghost use Rattle.pay_dates.specs.RollLaws.{RollsRise, UnadjustedRise, UnadjustedReachLast, NoWeekend, ModifiedKeepsMonth};
 
 use crate::Day;
 use std::cmp::Ordering;
@@ -32,3 +34,14 @@ pub fn days_compare_by_number(first: Day, second: Day) -> Ordering
 {
     first.cmp(&second)
 }
+
+/// The law of schedules: the dates of the rolls rise, from unadjusted dates that rise from the first date until they
+/// reach the last one; with a rule that moves none falls on a weekend, and with modified following each
+/// stays in the month of its unadjusted date.
+pub fn rolls_are_a_schedule()
+    ensures rise { RollsRise }
+    ensures unadjusted_rise { UnadjustedRise }
+    ensures reach_last { UnadjustedReachLast }
+    ensures no_weekend { NoWeekend }
+    ensures in_month { ModifiedKeepsMonth }
+{}
