@@ -9,7 +9,7 @@ use Rattle.std.specs.Prelude.{int_lt, int_le}
 use Rattle.std.specs.Ordering.{int_eq}
 use Rattle.pay_meaning.specs.declared.fault.FaultKind.{FaultKind}
 use Rattle.pay_meaning.specs.Language.{less, at_most, greater, at_least, equals, differs, done, next, and_then}
-use Rattle.pay_meaning.specs.Meaning.{Variables, one, both_hold, either_holds, truth, Payment, Effect, after_payments, followed_by, chosen, effect_of, effect}
+use Rattle.pay_meaning.specs.Meaning.{Variables, one, both, value, compared, both_hold, either_holds, truth, Payment, Effect, after_payments, followed_by, chosen, effect_of, effect}
 use Rattle.pay_meaning.specs.Laws.{ComparisonIsTrueWhereItHolds, TruthOfSides, ChoiceIsOneBranch, LastStatementFollows}
 
 -- what the tests of raws answer
@@ -55,6 +55,9 @@ truth-sides = record {
   and_goes_on = λ left right variables at h. ap (λ x. both_hold x (truth right variables at)) h;
   or_skips = λ left right variables at h. ap (λ x. either_holds x (truth right variables at)) h;
   or_goes_on = λ left right variables at h. ap (λ x. either_holds x (truth right variables at)) h;
+  and_faults = λ left right variables at fault h. ap (λ x. both_hold x (truth right variables at)) h;
+  or_faults = λ left right variables at fault h. ap (λ x. either_holds x (truth right variables at)) h;
+  comparison_faults = λ op left right note variables at fault h. ap (λ x. both (λ a b. Ok (compared op a b)) x (value right variables at)) h;
   not_and = λ left right variables at. not-both (truth left variables at) (truth right variables at);
   not_or = λ left right variables at. not-either (truth left variables at) (truth right variables at);
   not_not = λ side variables at. not-twice (truth side variables at);

@@ -1,13 +1,33 @@
 -- The events of a script in order of date, and the dates that two of them share.
 use Rattle.std.specs.Prelude.{◌≤◌, ℤ, ◌≤ℤ◌, int_lt, Bool, false, List, [], ◌∷◌, map, filter, length, if◌then◌else◌, Option, Some, None}
+use Rattle.std.specs.List.{flat_map}
 use Rattle.std.specs.Ordering.{int_eq}
 use Rattle.pay_dates.specs.Days.{day_number}
 use Rattle.pay_dates.specs.declared.day.Day.{Day}
-use Rattle.pay_meaning.specs.Language.{Event, Item, plain, Script}
+use Rattle.pay_dates.specs.Rolls.{rolls_of}
+use Rattle.pay_dates.specs.declared.roll.Roll.{Roll}
+use Rattle.pay_meaning.specs.Language.{Event, Terms, Body, Item, plain, scheduled, Script}
 
--- the event of an item
-abbrev pub event_of : Item → Event
-event_of (plain date body) = record { date = date; period = 0; days = 0; body = body }
+-- the rolls of a schedule
+abbrev pub rolls_by : Terms → List Roll
+rolls_by terms = rolls_of terms.first terms.last terms.every terms.unit terms.rule
+
+-- the event of a plain item
+abbrev pub plain_event : Day → Body → Event
+plain_event date body = record { date = date; period = 0; days = 0; body = body }
+
+-- the event of a roll
+abbrev pub rolled_event : Body → Roll → Event
+rolled_event body roll = record { date = roll.date; period = roll.period; days = roll.days; body = body }
+
+-- the events of an item: one, or one for each roll of its schedule
+abbrev pub events_in : Item → List Event
+events_in (plain date body) = plain_event date body ∷ []
+events_in (scheduled terms body) = map (rolled_event body) (rolls_by terms)
+
+-- the events of a script, in the order of its items
+abbrev pub all_events : Script → List Event
+all_events script = flat_map events_in script
 
 -- the number of an event's date
 abbrev pub number_of : Event → ℤ
@@ -29,7 +49,7 @@ in_order (event ∷ rest) = placed event (in_order rest)
 
 -- the events of a script, in order of date
 abbrev pub events_of : Script → List Event
-events_of script = in_order (map event_of script)
+events_of script = in_order (all_events script)
 
 -- two events have the date of this number
 abbrev pub IsShared : ℤ → List Event → Type 0

@@ -4,6 +4,8 @@
 -- ifs once their truth is known before a run.
 use Rattle.std.specs.Prelude.{ℕ, ℤ, Bool, List}
 use Rattle.pay_dates.specs.declared.day.Day.{Day}
+use Rattle.pay_dates.specs.declared.roll.Rule.{Rule}
+use Rattle.pay_dates.specs.declared.roll.Unit.{Unit as StepUnit}
 
 -- an operator with two sides: a sum, a difference, a product, a quotient, the lesser or the greater of two
 pub data Operator : Type 0 where
@@ -74,9 +76,18 @@ pub record Event : Type 0 where
   pub days : ℕ
   pub body : Body
 
--- an item of a script: statements on one date
+-- the terms of a schedule: its first and its last date, its step as a count of units, and where a date on a weekend moves
+pub record Terms : Type 0 where
+  pub first : Day
+  pub last : Day
+  pub every : ℕ
+  pub unit : StepUnit
+  pub rule : Rule
+
+-- an item of a script: statements on one date, or on each date of a schedule
 pub data Item : Type 0 where
   plain : Day → Body → Item
+  scheduled : Terms → Body → Item
 
 -- a script: its items in the order of the text
 abbrev pub Script : Type 0

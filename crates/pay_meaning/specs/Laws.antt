@@ -3,11 +3,11 @@ use Rattle.std.specs.Prelude.{◌≡◌, ℕ, true, false, List, [], ◌∷◌, 
 use Rattle.std.specs.Bool.{Decides}
 use Rattle.pay_dates.specs.declared.day.Day.{Day}
 use Rattle.pay_meaning.specs.Language.{Event, Body, Statement, choose, and_then, Comparison, less, at_most, greater, at_least, equals, differs}
-use Rattle.pay_meaning.specs.Language.{Condition, negation, conjunction, disjunction}
+use Rattle.pay_meaning.specs.Language.{Number, Note, Condition, compare, negation, conjunction, disjunction}
 use Rattle.pay_meaning.specs.Parts.{as_variable, body_parts, names_in}
 use Rattle.pay_meaning.specs.declared.fault.FaultKind.{FaultKind}
 use Rattle.pay_meaning.specs.Meaning.{Variables, Fixings, fixing_at, Payment, Meaning, End, finished, faulted, meaning_by, EventRun, after_earlier}
-use Rattle.pay_meaning.specs.Meaning.{Moment, Effect, effect, lookup, compared, truth, effect_of, followed_by}
+use Rattle.pay_meaning.specs.Meaning.{Moment, Effect, effect, lookup, value, compared, truth, effect_of, followed_by}
 use Rattle.pay_meaning.specs.Events.{number_of, events_at, in_order, shared_date, IsEarliestShared, IsShared}
 
 -- a meaning, and then the rest from its last variables; what faulted has no rest
@@ -72,8 +72,8 @@ Says differs a b = ¬ (a ≡ b)
 abbrev pub ComparisonIsTrueWhereItHolds : Type 0
 ComparisonIsTrueWhereItHolds = (op : Comparison) (a b : ℤ) → Decides (compared op a b) (Says op a b)
 
--- `and` and `or` skip the right side, whatever fault it has, where the left one settles them, and else have its truth or fault; and `not` of one
--- of them is the other one of the two sides under `not`, with the same fault
+-- `and` and `or` skip the right side, whatever fault it has, where the left one settles them, and else have its truth or fault; a fault of the
+-- left side comes first, in a comparison too; and `not` of one of them is the other one of the two sides under `not`, with the same fault
 pub record TruthOfSides : Type 0 where
   pub and_skips : (left right : Condition) (variables : Variables) (at : Moment)
       → truth left variables at ≡ Ok false → truth (conjunction left right) variables at ≡ Ok false
@@ -83,6 +83,12 @@ pub record TruthOfSides : Type 0 where
       → truth left variables at ≡ Ok true → truth (disjunction left right) variables at ≡ Ok true
   pub or_goes_on : (left right : Condition) (variables : Variables) (at : Moment)
       → truth left variables at ≡ Ok false → truth (disjunction left right) variables at ≡ truth right variables at
+  pub and_faults : (left right : Condition) (variables : Variables) (at : Moment) (fault : FaultKind)
+      → truth left variables at ≡ Err fault → truth (conjunction left right) variables at ≡ Err fault
+  pub or_faults : (left right : Condition) (variables : Variables) (at : Moment) (fault : FaultKind)
+      → truth left variables at ≡ Err fault → truth (disjunction left right) variables at ≡ Err fault
+  pub comparison_faults : (op : Comparison) (left right : Number) (note : Note) (variables : Variables) (at : Moment) (fault : FaultKind)
+      → value left variables at ≡ Err fault → truth (compare op left right note) variables at ≡ Err fault
   pub not_and : (left right : Condition) (variables : Variables) (at : Moment)
       → truth (negation (conjunction left right)) variables at ≡ truth (disjunction (negation left) (negation right)) variables at
   pub not_or : (left right : Condition) (variables : Variables) (at : Moment)

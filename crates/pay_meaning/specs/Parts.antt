@@ -1,9 +1,10 @@
 -- The parts of a script in the order of the text: its statements, and the conditions and the numbers in them; and the names that they use.
-use Rattle.std.specs.Prelude.{ℕ, Bool, true, false, List, [], ◌∷◌, ◌++◌, length, filter, Option, Some, None}
+use Rattle.std.specs.Prelude.{ℕ, Bool, true, false, not, List, [], ◌∷◌, ◌++◌, length, filter, Option, Some, None}
 use Rattle.std.specs.List.{flat_map}
+use Rattle.std.specs.Str.{bytes_eq}
 use Rattle.pay_meaning.specs.Language.{Number, literal, variable, spot, period, days, negative, absolute, binary, Condition, compare, negation}
 use Rattle.pay_meaning.specs.Language.{conjunction, disjunction, settled, sure, Statement, assign, pay, choose, group, Body, done, next}
-use Rattle.pay_meaning.specs.Language.{Item, plain, Script}
+use Rattle.pay_meaning.specs.Language.{Event, Item, plain, scheduled, Script}
 
 -- a part of a script: a statement, a condition of one, or a number of one
 pub data Part : Type 0 where
@@ -46,10 +47,15 @@ abbrev mutual
 
 abbrev pub item_parts : Item → List Part
 item_parts (plain date body) = body_parts body
+item_parts (scheduled terms body) = body_parts body
 
 -- the parts of a script, in the order of the text
 abbrev pub script_parts : Script → List Part
 script_parts script = flat_map item_parts script
+
+-- the parts of events, one event after the other: statements that stand in several events are counted in each
+abbrev pub event_parts : List Event → List Part
+event_parts events = flat_map (λ event. body_parts event.body) events
 
 -- a part that is a payment
 abbrev pub is_payment : Part → Bool
@@ -82,3 +88,12 @@ with_name (Some name) names = name ∷ names
 abbrev pub names_in : Role → List Part → List (List ℕ)
 names_in role [] = []
 names_in role (part ∷ rest) = with_name (name_in role part) (names_in role rest)
+
+-- names, each at its first place alone
+abbrev pub each_once : List (List ℕ) → List (List ℕ)
+each_once [] = []
+each_once (name ∷ rest) = name ∷ filter (λ other. not (bytes_eq name other)) (each_once rest)
+
+-- the names that a script uses so, by their first appearance in its text
+abbrev pub names_of : Role → Script → List (List ℕ)
+names_of role script = each_once (names_in role (script_parts script))

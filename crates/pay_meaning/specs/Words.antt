@@ -2,6 +2,8 @@
 use Rattle.std.specs.Prelude.{ℕ, nat_le, nat_eq, codes, Bool, false, not, ◌&&◌, ◌||◌, List, [], ◌∷◌, length, IsTrue}
 use Rattle.std.specs.List.{list_any, list_all}
 use Rattle.std.specs.Str.{bytes_eq}
+use Rattle.pay_dates.specs.declared.roll.Unit.{Unit as StepUnit}
+use Rattle.pay_dates.specs.declared.roll.Unit.TheVariants.{Days, Weeks, Months, Years}
 
 -- an ASCII letter in lower case, or `_`
 abbrev pub is_letter : ℕ → Bool
@@ -34,3 +36,10 @@ is_name bytes = nat_le (length bytes) 64 && is_lower_word bytes && not (is_keywo
 -- the bytes are a name
 abbrev pub IsName : List ℕ → Type 0
 IsName bytes = IsTrue (is_name bytes)
+
+-- the letter that stands for a unit of a schedule's step, which is a name elsewhere
+abbrev pub unit_word : StepUnit → List ℕ
+unit_word Days = codes "d"
+unit_word Weeks = codes "w"
+unit_word Months = codes "m"
+unit_word Years = codes "y"
