@@ -1,2 +1,4 @@
 pub mod TreeLemmas
 pub mod PrintLemmas
+pub mod SizeLemmas
+pub mod NameLemmas

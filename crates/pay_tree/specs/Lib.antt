@@ -1,3 +1,6 @@
 -- What the contracts of `pay_tree` cite.
 pub mod Views
 pub mod Text
+pub mod Sizes
+pub mod PartViews
+pub mod NameLists

@@ -1,14 +1,20 @@
--- The canonical text of a script: a line for each date and each statement, and each operation in brackets of its own.
--- Truth literals, conditions that are sure and groups, which no script has that is read, have a text that shows them.
+-- The canonical text of a script: a line for each date, the lines of each statement, and brackets round each operation with two sides.
+-- Truth literals, conditions that are sure and groups, which no script has that is read, have a text that shows them; where groups alone stand
+-- in a branch, the text of simplified steps has a rule of its own for `else`.
 use Rattle.std.specs.Prelude.{ℕ, Bool, true, false, codes, List, [], ◌++◌}
+use Rattle.std.specs.Fmt.{decimal}
 use Rattle.std.specs.List.{flat_map}
 use Rattle.pay_dates.specs.Days.{day_text}
 use Rattle.pay_dates.specs.declared.day.Day.{Day}
+use Rattle.pay_dates.specs.declared.roll.Rule.{Rule}
+use Rattle.pay_dates.specs.declared.roll.Rule.TheVariants.{Stay, Following, Preceding, Modified}
+use Rattle.pay_dates.specs.declared.roll.Unit.{Unit as StepUnit}
 use Rattle.pay_fixed.specs.Decimal.{decimal_text}
 use Rattle.pay_meaning.specs.Language.{Operator, add, subtract, multiply, divide, least, greatest, Number, literal, variable, spot, period, days}
 use Rattle.pay_meaning.specs.Language.{negative, absolute, binary, Comparison, less, at_most, greater, at_least, equals, differs, Condition}
 use Rattle.pay_meaning.specs.Language.{compare, negation, conjunction, disjunction, settled, sure, Statement, assign, pay, choose, group, Body}
-use Rattle.pay_meaning.specs.Language.{done, next, Item, plain, Script}
+use Rattle.pay_meaning.specs.Language.{done, next, Terms, Item, plain, scheduled, Script}
+use Rattle.pay_meaning.specs.Words.{unit_word}
 
 -- what stands before two numbers under an operator
 abbrev pub opening : Operator → List ℕ
@@ -106,9 +112,29 @@ item_indent = codes "  "
 abbrev pub date_line : Day → List ℕ
 date_line date = codes "@" ++ (day_text date ++ codes "\n")
 
--- the line of a date, and the lines of the statements on it
+-- the word of a rule after a space; without a rule nothing
+abbrev pub rule_text : Rule → List ℕ
+rule_text Stay = []
+rule_text Following = codes " following"
+rule_text Preceding = codes " preceding"
+rule_text Modified = codes " modified"
+
+-- `schedule from @2024-01-31 to @2024-05-15`
+abbrev pub dates_text : Day → Day → List ℕ
+dates_text first last = codes "schedule from @" ++ (day_text first ++ (codes " to @" ++ day_text last))
+
+-- ` every 1 m following`
+abbrev pub step_text : ℕ → StepUnit → Rule → List ℕ
+step_text every unit rule = codes " every " ++ (decimal every ++ (codes " " ++ (unit_word unit ++ rule_text rule)))
+
+-- a line `schedule from @2024-01-31 to @2024-05-15 every 1 m following do`
+abbrev pub schedule_line : Terms → List ℕ
+schedule_line terms = dates_text terms.first terms.last ++ (step_text terms.every terms.unit terms.rule ++ codes " do\n")
+
+-- the line of a date or of a schedule, the lines of the statements on it, and after a schedule the line `end`
 abbrev pub item_text : Item → List ℕ
 item_text (plain date body) = date_line date ++ body_text item_indent body
+item_text (scheduled terms body) = schedule_line terms ++ (body_text item_indent body ++ codes "end\n")
 
 -- the lines of the items in their order
 abbrev pub script_text : Script → List ℕ

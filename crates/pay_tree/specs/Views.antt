@@ -4,7 +4,7 @@ use Rattle.std.specs.Prelude.{List, [], ◌∷◌, map}
 use Rattle.pay_meaning.specs.Language.{Operator, add, subtract, multiply, divide, least, greatest, Number, literal, variable, spot, period, days}
 use Rattle.pay_meaning.specs.Language.{negative, absolute, binary, Comparison, less, at_most, greater, at_least, equals, differs, bare, Condition}
 use Rattle.pay_meaning.specs.Language.{compare, negation, conjunction, disjunction, Statement, assign, pay, choose, Body, done, next, Event, Item}
-use Rattle.pay_meaning.specs.Language.{plain, Script}
+use Rattle.pay_meaning.specs.Language.{plain, scheduled, Script}
 use Rattle.pay_tree.specs.declared.tree.Binary.{Binary}
 use Rattle.pay_tree.specs.declared.tree.Binary.TheVariants.{Add, Sub, Mul, Div, Min, Max}
 use Rattle.pay_tree.specs.declared.tree.Unary.{Unary}
@@ -95,6 +95,8 @@ body statements = body_of (map statement statements)
 -- the item that an item of a tree is
 abbrev pub item : ItemTree → Item
 item (item_tree.Plain date statements) = plain date (body statements.items)
+item (item_tree.Schedule first last every unit rule statements) =
+    scheduled (record { first = first; last = last; every = every; unit = unit; rule = rule }) (body statements.items)
 
 -- the script that a tree is
 abbrev pub script : ScriptTree → Script

@@ -1,12 +1,15 @@
 //! The canonical text of a script.
 
 ghost use Rattle.std.specs.Prelude.{◌≡◌, ◌<◌, ◌++◌, codes, length, IfOk, OnErr, OnOk};
+ghost use Rattle.std.specs.Fmt.{decimal};
+ghost use Rattle.pay_dates.specs.Days.{day_text};
+ghost use Rattle.pay_meaning.specs.Words.{unit_word};
 ghost use Rattle.pay_tree.specs.Text as text_of;
 ghost use Rattle.pay_tree.specs.Views as view;
 
 use crate::name::Name;
 use crate::tree::{Binary, Compare, Cond, Expr, Item, Script, Stmt, Unary};
-use pay_dates::{Day, write_day};
+use pay_dates::{Day, Rule, Unit, write_day};
 use pay_fixed::NoMemory;
 use std::alloc::Global;
 
@@ -227,10 +230,95 @@ fn print_date(text: &mut Vec<u8>, date: Day) -> Result<(), NoMemory>
     ensures { OnOk result (text.new.items ≡ text.old.items ++ text_of.date_line date) }
 {
     text.extend_from_slice(b"@")?;
-    if write_day(date, text).is_err() {
-        return Err(NoMemory);
-    }
+    print_day(text, date)?;
     text.extend_from_slice(b"\n")?;
+    Ok(())
+}
+
+/// Appends a date.
+fn print_day(text: &mut Vec<u8>, date: Day) -> Result<(), NoMemory>
+    ensures { OnOk result (text.new.items ≡ text.old.items ++ day_text date) }
+{
+    match write_day(date, text) {
+        Ok(()) => Ok(()),
+        Err(_) => Err(NoMemory),
+    }
+}
+
+/// Appends the digits of a count.
+fn print_count(text: &mut Vec<u8>, count: u64) -> Result<(), NoMemory>
+    ensures { OnOk result (text.new.items ≡ text.old.items ++ decimal count) }
+{
+    if count >= 10 {
+        print_count(text, count / 10)?;
+    }
+    text.push(b'0' + (count % 10) as u8)?;
+    Ok(())
+}
+
+/// The word of a unit.
+fn unit_word(unit: Unit) -> &'static [u8]
+    ensures { result.now ≡ unit_word unit }
+{
+    match unit {
+        Unit::Days => b"d",
+        Unit::Weeks => b"w",
+        Unit::Months => b"m",
+        Unit::Years => b"y",
+    }
+}
+
+/// The word of a rule after a space; nothing without a rule.
+fn rule_text(rule: Rule) -> &'static [u8]
+    ensures { result.now ≡ text_of.rule_text rule }
+{
+    match rule {
+        Rule::Stay => b"",
+        Rule::Following => b" following",
+        Rule::Preceding => b" preceding",
+        Rule::Modified => b" modified",
+    }
+}
+
+/// Appends the words and the dates that a schedule begins with.
+fn print_dates(text: &mut Vec<u8>, first: Day, last: Day) -> Result<(), NoMemory>
+    ensures { OnOk result (text.new.items ≡ text.old.items ++ text_of.dates_text first last) }
+{
+    text.extend_from_slice(b"schedule from @")?;
+    print_day(text, first)?;
+    text.extend_from_slice(b" to @")?;
+    print_day(text, last)?;
+    Ok(())
+}
+
+/// Appends the step of a schedule, and its rule.
+fn print_step(text: &mut Vec<u8>, every: u64, unit: Unit, rule: Rule) -> Result<(), NoMemory>
+    ensures { OnOk result (text.new.items ≡ text.old.items ++ text_of.step_text every unit rule) }
+{
+    text.extend_from_slice(b" every ")?;
+    print_count(text, every)?;
+    text.extend_from_slice(b" ")?;
+    text.extend_from_slice(unit_word(unit))?;
+    text.extend_from_slice(rule_text(rule))?;
+    Ok(())
+}
+
+/// Appends the line that a schedule begins with.
+#[tactic(auto, using(std::proofs::Common::append_assoc))]
+fn print_schedule_line(
+    text: &mut Vec<u8>,
+    first: Day,
+    last: Day,
+    every: u64,
+    unit: Unit,
+    rule: Rule,
+) -> Result<(), NoMemory>
+    ensures { OnOk result (text.new.items ≡ text.old.items
+        ++ text_of.schedule_line (record { first = first; last = last; every = every; unit = unit; rule = rule })) }
+{
+    print_dates(text, first, last)?;
+    print_step(text, every, unit, rule)?;
+    text.extend_from_slice(b" do\n")?;
     Ok(())
 }
 
@@ -243,17 +331,33 @@ fn print_item(alloc: Global, text: &mut Vec<u8>, item: &Item) -> Result<(), NoMe
             print_date(text, *date)?;
             print_statements(alloc, text, ITEM_INDENT, body)
         }
+        Item::Schedule {
+            first,
+            last,
+            every,
+            unit,
+            rule,
+            body,
+        } => {
+            print_schedule_line(text, *first, *last, *every, *unit, *rule)?;
+            print_statements(alloc, text, ITEM_INDENT, body)?;
+            text.extend_from_slice(b"end\n")?;
+            Ok(())
+        }
     }
 }
 
 /// The canonical text of a script, in memory of `alloc`. Equal scripts have one text.
 ///
-/// Each line ends with a line feed. An item is a line `@2024-06-28`, and then a line for each of its statements, two
-/// spaces further in: `name = 1.5;` or `leg pays 1.5;`. A number is written with the fewest decimals and a name as it
-/// is. Each operation has brackets of its own: `(a + b)`, `(a - b)`, `(a * b)`, `(a / b)`, `min(a, b)`, `max(a, b)`,
-/// `abs(a)`, `spot()`, `period()`, `days()`; a minus stands right before its number, as `-a`. An `if` is a line
-/// `if a < b then`, the lines of its first branch two spaces further in, where its second has statements a line `else`
-/// and theirs, and a line `endif`. Conditions are `a < b` and its like, `not c`, `(c and d)`, `(c or d)`.
+/// Each line ends with a line feed. A plain item is a line `@2024-06-28`, and then the lines of its statements, two spaces
+/// further in. A schedule is a line `schedule from @2024-01-31 to @2024-05-15 every 1 m following do`, the lines of its
+/// statements, two spaces further in, and a line `end`; its unit is one of `d`, `w`, `m`, `y`, and a rule stands only where
+/// the schedule has one. An assignment and a payment are one line, `name = 1.5;` or `leg pays 1.5;`. A number is written
+/// with the fewest decimals and a name as it is. Each operation has brackets of its own: `(a + b)`, `(a - b)`, `(a * b)`,
+/// `(a / b)`, `min(a, b)`, `max(a, b)`, `abs(a)`, `spot()`, `period()`, `days()`; a minus stands right before its number, as
+/// `-a`. An `if` is a line `if a < b then`, the lines of its first branch two spaces further in, where its second has
+/// statements a line `else` and theirs, and a line `endif`. Conditions are `a < b` and its like, `not c`, `(c and d)`,
+/// `(c or d)`.
 ///
 /// # Errors
 ///

@@ -1,9 +1,10 @@
-//! Tests of the calls on names, and of the canonical text.
+//! Tests of the calls on names, of the canonical text, and of what is asked of a tree.
 
 use crate::{
-    Binary, Compare, Cond, Expr, Item, Name, NameFault, Script, Stmt, Unary, print_script,
+    Binary, Compare, Cond, Expr, Item, Name, NameFault, Script, Stmt, Unary, copy_body, legs, pays,
+    print_script, size, variables,
 };
-use pay_dates::Day;
+use pay_dates::{Day, Rule, Unit};
 use pay_fixed::Fixed;
 use std::alloc::Global;
 use std::cmp::Ordering;
@@ -135,17 +136,20 @@ fn connected(alloc: Global) -> Result<Cond, Fail> {
     Ok(Cond::Not(Box::new(alloc, both)?))
 }
 
-fn pays(alloc: Global, raw: i64) -> Result<Stmt, Fail> {
-    Ok(Stmt::Pay {
-        leg: Name::read(alloc, b"a")?,
-        amount: number(raw)?,
-    })
+fn assigns(alloc: Global, name: &[u8], value: Expr) -> Result<Stmt, Fail> {
+    let name = Name::read(alloc, name)?;
+    Ok(Stmt::Assign { name, value })
+}
+
+fn payment(alloc: Global, leg: &[u8], amount: Expr) -> Result<Stmt, Fail> {
+    let leg = Name::read(alloc, leg)?;
+    Ok(Stmt::Pay { leg, amount })
 }
 
 // An `if` within an `if`, with an `else` and without, and one without statements for each comparison.
 fn choices(alloc: Global) -> Result<Vec<Stmt>, Fail> {
     let mut inner = Vec::new(alloc);
-    inner.push(pays(alloc, 10_000)?)?;
+    inner.push(payment(alloc, b"a", number(10_000)?)?)?;
     let mut yes = Vec::new(alloc);
     yes.push(Stmt::If {
         cond: compare(alloc, Compare::Same, Expr::Spot, number(10_000)?)?,
@@ -153,7 +157,7 @@ fn choices(alloc: Global) -> Result<Vec<Stmt>, Fail> {
         no: Vec::new(alloc),
     })?;
     let mut no = Vec::new(alloc);
-    no.push(pays(alloc, 20_000)?)?;
+    no.push(payment(alloc, b"a", number(20_000)?)?)?;
     let mut choices = Vec::new(alloc);
     choices.push(Stmt::If {
         cond: connected(alloc)?,
@@ -199,29 +203,161 @@ const LINES: &[u8] = b"@2024-06-28
   endif
 ";
 
+// Assignments of the numbers above, and a payment.
+fn simple(alloc: Global) -> Result<Vec<Stmt>, Fail> {
+    let mut body = Vec::new(alloc);
+    for value in numbers(alloc)? {
+        body.push(assigns(alloc, b"x", value)?)?;
+    }
+    body.push(payment(alloc, b"x", number(10_000)?)?)?;
+    Ok(body)
+}
+
+fn day(year: u16, month: u8, day: u8) -> Result<Day, Fail> {
+    Ok(Day::new(year, month, day).ok_or("a day")?)
+}
+
+fn two_items(alloc: Global, first: Vec<Stmt>, second: Vec<Stmt>) -> Result<Script, Fail> {
+    let mut items = Vec::new(alloc);
+    items.push(Item::Plain {
+        date: day(2024, 6, 28)?,
+        body: first,
+    })?;
+    items.push(Item::Plain {
+        date: day(2024, 6, 29)?,
+        body: second,
+    })?;
+    Ok(Script { items })
+}
+
 #[test]
 fn a_script_is_printed_in_lines(rt: HostRuntime) -> Result<(), Fail> {
     let alloc = rt.alloc();
-    let mut body = Vec::new(alloc);
-    for value in numbers(alloc)? {
-        let name = Name::read(alloc, b"x")?;
-        body.push(Stmt::Assign { name, value })?;
+    let script = two_items(alloc, simple(alloc)?, choices(alloc)?)?;
+    let text = print_script(alloc, &script)?;
+    assert_eq!(rt; text.as_slice(), LINES);
+    Ok(())
+}
+
+#[test]
+fn copies_are_printed_the_same(rt: HostRuntime) -> Result<(), Fail> {
+    let alloc = rt.alloc();
+    let first = simple(alloc)?;
+    let second = choices(alloc)?;
+    let script = two_items(alloc, copy_body(alloc, &first)?, copy_body(alloc, &second)?)?;
+    let text = print_script(alloc, &script)?;
+    assert_eq!(rt; text.as_slice(), LINES);
+    Ok(())
+}
+
+// Steps of schedules, and the rules beside them.
+const STEPS: [(u64, Unit, Rule); 4] = [
+    (7, Unit::Days, Rule::Stay),
+    (10, Unit::Weeks, Rule::Following),
+    (1, Unit::Months, Rule::Preceding),
+    (205, Unit::Years, Rule::Modified),
+];
+
+const SCHEDULES: &[u8] = b"schedule from @2024-01-31 to @2024-05-15 every 7 d do
+  a pays 1;
+end
+schedule from @2024-01-31 to @2024-05-15 every 10 w following do
+  a pays 1;
+end
+schedule from @2024-01-31 to @2024-05-15 every 1 m preceding do
+  a pays 1;
+end
+schedule from @2024-01-31 to @2024-05-15 every 205 y modified do
+  a pays 1;
+end
+";
+
+fn schedule(every: u64, unit: Unit, rule: Rule, body: Vec<Stmt>) -> Result<Item, Fail> {
+    Ok(Item::Schedule {
+        first: day(2024, 1, 31)?,
+        last: day(2024, 5, 15)?,
+        every,
+        unit,
+        rule,
+        body,
+    })
+}
+
+#[test]
+fn schedules_are_printed_in_lines(rt: HostRuntime) -> Result<(), Fail> {
+    let alloc = rt.alloc();
+    let mut items = Vec::new(alloc);
+    for (every, unit, rule) in STEPS {
+        let mut body = Vec::new(alloc);
+        body.push(payment(alloc, b"a", number(10_000)?)?)?;
+        items.push(schedule(every, unit, rule, body)?)?;
     }
-    let leg = Name::read(alloc, b"x")?;
-    body.push(Stmt::Pay {
-        leg,
-        amount: number(10_000)?,
+    let text = print_script(alloc, &Script { items })?;
+    assert_eq!(rt; text.as_slice(), SCHEDULES);
+    Ok(())
+}
+
+// `if z = 1 then x pays 1; else y = -x; endif`.
+fn branches(alloc: Global) -> Result<Vec<Stmt>, Fail> {
+    let mut yes = Vec::new(alloc);
+    yes.push(payment(alloc, b"x", number(10_000)?)?)?;
+    let mut no = Vec::new(alloc);
+    let less = unary(alloc, Unary::Neg, variable(alloc, b"x")?)?;
+    no.push(assigns(alloc, b"y", less)?)?;
+    let mut body = Vec::new(alloc);
+    body.push(Stmt::If {
+        cond: compare(
+            alloc,
+            Compare::Same,
+            variable(alloc, b"z")?,
+            number(10_000)?,
+        )?,
+        yes,
+        no,
     })?;
+    Ok(body)
+}
+
+#[test]
+fn bodies_are_counted(rt: HostRuntime) -> Result<(), Fail> {
+    let alloc = rt.alloc();
+    // The `if`, its condition and two numbers, a payment and its number, an assignment and two numbers.
+    let body = branches(alloc)?;
+    assert_eq!(rt; size(&body), 9);
+    assert_eq!(rt; pays(&body), 1);
+    assert_eq!(rt; size(&[]), 0);
+    assert_eq!(rt; pays(&[]), 0);
+    Ok(())
+}
+
+// The bytes of names, each with a blank after it.
+fn spaced(alloc: Global, names: &[Name]) -> Result<Vec<u8>, Fail> {
+    let mut text = Vec::new(alloc);
+    for name in names {
+        text.extend_from_slice(name.bytes())?;
+        text.extend_from_slice(b" ")?;
+    }
+    Ok(text)
+}
+
+#[test]
+fn names_stand_in_order_of_first_appearance(rt: HostRuntime) -> Result<(), Fail> {
+    let alloc = rt.alloc();
+    let mut body = Vec::new(alloc);
+    body.push(assigns(alloc, b"a", variable(alloc, b"z")?)?)?;
+    body.push(payment(alloc, b"b", variable(alloc, b"y")?)?)?;
+    body.push(payment(alloc, b"a", variable(alloc, b"a")?)?)?;
+    body.push(payment(alloc, b"x", variable(alloc, b"x")?)?)?;
     let mut items = Vec::new(alloc);
     items.push(Item::Plain {
-        date: Day::new(2024, 6, 28).ok_or("a day")?,
-        body,
+        date: day(2024, 1, 31)?,
+        body: branches(alloc)?,
     })?;
-    items.push(Item::Plain {
-        date: Day::new(2024, 6, 29).ok_or("a day")?,
-        body: choices(alloc)?,
-    })?;
-    let text = print_script(alloc, &Script { items })?;
-    assert_eq!(rt; text.as_slice(), LINES);
+    items.push(schedule(1, Unit::Months, Rule::Stay, body)?)?;
+    let script = Script { items };
+    let variables = spaced(alloc, &variables(alloc, &script)?)?;
+    assert_eq!(rt; variables.as_slice(), b"z y x a ".as_slice());
+    let legs = spaced(alloc, &legs(alloc, &script)?)?;
+    assert_eq!(rt; legs.as_slice(), b"x b a ".as_slice());
     Ok(())
 }

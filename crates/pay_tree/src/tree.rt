@@ -1,7 +1,7 @@
 //! The trees: operators, numbers, conditions, statements, items, scripts, and events with their names.
 
 use crate::name::Name;
-use pay_dates::Day;
+use pay_dates::{Day, Rule, Unit};
 use pay_fixed::Fixed;
 
 /// An operator with one side.
@@ -117,6 +117,21 @@ pub enum Item {
         /// The statements, in the order of the text.
         body: Vec<Stmt>,
     },
+    /// Statements on each date of a schedule.
+    Schedule {
+        /// The first date, from which all are counted; it gives no event.
+        first: Day,
+        /// The last date.
+        last: Day,
+        /// The step: how many units lie between two dates.
+        every: u64,
+        /// The unit of the step.
+        unit: Unit,
+        /// Where a date on a weekend moves.
+        rule: Rule,
+        /// The statements, in the order of the text.
+        body: Vec<Stmt>,
+    },
 }
 
 /// A script: its items, in the order of the text.
@@ -126,14 +141,14 @@ pub struct Script {
     pub items: Vec<Item>,
 }
 
-/// An event: the statements of one date, with the period and the days that a schedule gives them (0 and 0 in a plain item).
+/// An event: the statements of one date. A plain item gives one, and a schedule one for each of its dates.
 #[derive(Drop)]
 pub struct NamedEvent {
     /// The date of the event.
     pub date: Day,
-    /// The number of the period that the event ends, 0 in a plain item.
+    /// The number of the event in its schedule, from 1 on; 0 in a plain item.
     pub period: u32,
-    /// The days of that period, 0 in a plain item.
+    /// The days since the date before in its schedule, whose first date is the one it is counted from; 0 in a plain item.
     pub days: u32,
     /// The statements, in the order of the text.
     pub body: Vec<Stmt>,
