@@ -16,7 +16,7 @@ use Rattle.pay_parser.specs.Grammar.{of_days, SpellsArguments, two, one_more_num
 use Rattle.pay_parser.specs.Grammar.{SpellsConjunction, one_negation, and_also, SpellsNegation, not_sign, two_numbers, condition_in_brackets}
 use Rattle.pay_parser.specs.Reading.{Sum, no_sum, sum_plus, sum_minus, Product, no_product, product_times, product_over, Before, before, Logic}
 use Rattle.pay_parser.specs.Reading.{a_logic, no_logic, Opening, of_if, of_bracket, of_yes, Frame, a_body, a_condition, a_comparison, a_bracket}
-use Rattle.pay_parser.specs.Reading.{an_absolute, a_choice, free, factor_next, after, after_condition, State, state, fresh, summed, arrived}
+use Rattle.pay_parser.specs.Reading.{an_absolute, an_extreme, free, factor_next, after, after_condition, State, state, fresh, summed, arrived}
 use Rattle.pay_parser.specs.Reading.{negated_by, conjoined, condition_of, may_compare, step_literal, step_close, step, read_on}
 
 -- a test that holds leads on
@@ -42,8 +42,8 @@ record ReadsArguments (op : Operator) (ts : List TokenKind) (n : Number) : Type 
   last : Number
   is : binary op first (summed sum last) ≡ n
   reads : (frames : List Frame) (left : Before) (rest : List TokenKind)
-      → read_on (state (a_choice op left None ∷ frames) (factor_next fresh)) (ts ++ rest)
-      ≡ read_on (state (a_choice op left (Some first) ∷ frames) (after sum last)) rest
+      → read_on (state (an_extreme op left None ∷ frames) (factor_next fresh)) (ts ++ rest)
+      ≡ read_on (state (an_extreme op left (Some first) ∷ frames) (after sum last)) rest
 
 -- a bracket around a number ends with that number
 closes : (ts : List TokenKind) (n : Number) → Reads ts n → (frames : List Frame) (rest : List TokenKind)
@@ -54,7 +54,7 @@ closes ts n r frames rest =
 
 -- a bracket around arguments ends with the number that they give
 chooses : (op : Operator) (ts : List TokenKind) (n : Number) → ReadsArguments op ts n → (frames : List Frame) (left : Before) (rest : List TokenKind)
-    → read_on (state (a_choice op left None ∷ frames) (factor_next fresh)) ((ts ++ token.Sign sign.ParenRight ∷ []) ++ rest)
+    → read_on (state (an_extreme op left None ∷ frames) (factor_next fresh)) ((ts ++ token.Sign sign.ParenRight ∷ []) ++ rest)
     ≡ read_on (arrived frames left n) rest
 chooses op ts n r frames left rest =
     rw append_assoc (r.reads frames left (token.Sign sign.ParenRight ∷ rest) ∙ ap (λ x. read_on (arrived frames left x) rest) r.is)
@@ -141,9 +141,9 @@ mutual
         sum = q.sum;
         last = q.last;
         is = ap (binary op a) q.is;
-        reads = λ frames left rest. rw append_assoc (r.reads (a_choice op left None ∷ frames) (token.Sign sign.Comma ∷ us ++ rest)
-            ∙ ap (λ x. read_on (state (a_choice op left (Some x) ∷ frames) (factor_next fresh)) (us ++ rest)) r.is
-            ∙ q.reads (a_choice op left (Some a) ∷ frames) rest);
+        reads = λ frames left rest. rw append_assoc (r.reads (an_extreme op left None ∷ frames) (token.Sign sign.Comma ∷ us ++ rest)
+            ∙ ap (λ x. read_on (state (an_extreme op left (Some x) ∷ frames) (factor_next fresh)) (us ++ rest)) r.is
+            ∙ q.reads (an_extreme op left (Some a) ∷ frames) rest);
       }
   arguments_read _ _ _ (one_more_number op ts us a b k m) =
       let r = arguments_read op ts a k in
@@ -154,8 +154,8 @@ mutual
         last = q.last;
         is = ap (binary op a) q.is;
         reads = λ frames left rest. rw append_assoc (r.reads frames left (token.Sign sign.Comma ∷ us ++ rest)
-            ∙ ap (λ x. read_on (state (a_choice op left (Some x) ∷ frames) (factor_next fresh)) (us ++ rest)) r.is
-            ∙ q.reads (a_choice op left (Some a) ∷ frames) rest);
+            ∙ ap (λ x. read_on (state (an_extreme op left (Some x) ∷ frames) (factor_next fresh)) (us ++ rest)) r.is
+            ∙ q.reads (an_extreme op left (Some a) ∷ frames) rest);
       }
 
 -- what ends a comparison: its sign, its left number, and what stands at the end of its right number; or a condition in brackets

@@ -2,21 +2,23 @@
 use Rattle.std.proofs.Common.{◌≡◌, ℕ, zero, suc, true, List, [], ◌∷◌, ◌++◌, Option, Some, None, refl, ap, ◌∙◌, append_assoc, append-nil}
 use Rattle.std.proofs.lemmas.Bool.{false≢true}
 use Rattle.pay_dates.specs.declared.day.Day.{Day}
+use Rattle.pay_dates.specs.declared.roll.Unit.{Unit as StepUnit}
 use Rattle.pay_lexer.specs.declared.token.Key.{Key}
 use Rattle.pay_lexer.specs.declared.token.Key.TheVariants as key
 use Rattle.pay_lexer.specs.declared.token.Sign.TheVariants as sign
 use Rattle.pay_lexer.specs.declared.token.TokenKind.{TokenKind}
 use Rattle.pay_lexer.specs.declared.token.TokenKind.TheVariants as token
 use Rattle.pay_meaning.specs.Language.{Operator, least, greatest, Number, spot, period, days, negative, binary, Comparison, Condition, negation}
-use Rattle.pay_meaning.specs.Language.{Statement, Body, and_then, Script}
-use Rattle.pay_meaning.specs.Words.{IsName}
+use Rattle.pay_meaning.specs.Language.{Statement, Body, and_then, Terms, Script}
+use Rattle.pay_meaning.specs.Words.{IsName, unit_word}
 use Rattle.pay_parser.specs.Grammar.{bracketed, SpellsNumber, one_term, plus, minus, SpellsTerm, one_factor, times, over, SpellsFactor, minus_sign}
 use Rattle.pay_parser.specs.Grammar.{SpellsAtom, of_least, of_greatest, of_spot, of_period, of_days, SpellsArguments, two, one_more_number, sign_of}
 use Rattle.pay_parser.specs.Grammar.{SpellsCondition, one_conjunction, or_else, SpellsConjunction, one_negation, and_also, SpellsNegation, not_sign}
-use Rattle.pay_parser.specs.Grammar.{SpellsSimple, assignment, payment, SpellsChoice, SpellsBody, SpellsScript}
+use Rattle.pay_parser.specs.Grammar.{SpellsSimple, assignment, payment, SpellsChoice, SpellsBody, SpellsCount, rule_tokens, schedule_tokens, SpellsScript}
 use Rattle.pay_parser.specs.Reading.{Head, assigns, pays, Sum, no_sum, sum_plus, sum_minus, Product, no_product, product_times, product_over, Before}
-use Rattle.pay_parser.specs.Reading.{before, Logic, a_logic, Opening, of_if, of_bracket, Owner, of_item, of_yes, of_no, Frame, a_script, a_body}
-use Rattle.pay_parser.specs.Reading.{a_statement, a_condition, a_comparison, a_bracket, an_absolute, a_choice, Mode, free, after_endif, named}
+use Rattle.pay_parser.specs.Reading.{before, Logic, a_logic, Opening, of_if, of_bracket, Owner, of_item, of_schedule, of_yes, of_no, Frame, a_script}
+use Rattle.pay_parser.specs.Reading.{a_body, a_statement, a_condition, a_comparison, a_bracket, an_absolute, an_extreme, Heading, from_next, first_next}
+use Rattle.pay_parser.specs.Reading.{to_next, last_next, every_next, count_next, unit_next, rule_next, do_next, Mode, free, heading, after_endif, named}
 use Rattle.pay_parser.specs.Reading.{factor_next, after, after_condition, bracket_next, call_named, call_opened, State, state, fresh, summed}
 use Rattle.pay_parser.specs.Reading.{multiplied, signed_by, headed, no_logic, negated_by, conjoined, disjoined, condition_of, with_and, with_or}
 use Rattle.pay_parser.specs.Reading.{with_not, is_fresh, may_compare, with_argument}
@@ -68,9 +70,10 @@ abbrev pub opening_of : Opening → TokenKind
 opening_of of_if = token.Key key.If
 opening_of of_bracket = token.Sign sign.ParenLeft
 
--- the tokens in front of the statements of an item or of a branch
+-- the tokens in front of the statements of an item, of a schedule or of a branch
 pub data SpellsOwner : Owner → List TokenKind → Type 0 where
   owner_item : (date : Day) → SpellsOwner (of_item date) (token.Date date ∷ [])
+  owner_schedule : (terms : Terms) (digits : List ℕ) → SpellsCount digits terms.every → SpellsOwner (of_schedule terms) (schedule_tokens terms digits)
   owner_yes : (c : Condition) (ts : List TokenKind) → SpellsCondition ts c → SpellsOwner (of_yes c) (token.Key key.If ∷ (ts ++ token.Key key.Then ∷ []))
   owner_no : (c : Condition) (a : Body) (ts us : List TokenKind) → SpellsCondition ts c → SpellsBody us a
       → SpellsOwner (of_no c a) (token.Key key.If ∷ (ts ++ token.Key key.Then ∷ (us ++ token.Key key.Else ∷ [])))
@@ -95,7 +98,7 @@ pub data SpellsFirst : Operator → Option Number → List TokenKind → Type 0 
 pub data SpellsWord : Frame → List TokenKind → Type 0 where
   word_absolute : (left : Before) (ts : List TokenKind) → SpellsBefore left ts → SpellsWord (an_absolute left) (ts ++ token.Key key.Abs ∷ [])
   word_choice : (op : Operator) (k : Key) (left : Before) (ts : List TokenKind) → IsChoice op k → SpellsBefore left ts
-      → SpellsWord (a_choice op left None) (ts ++ token.Key k ∷ [])
+      → SpellsWord (an_extreme op left None) (ts ++ token.Key k ∷ [])
 
 -- the tokens of what is open in a frame
 pub data SpellsFrame : Frame → List TokenKind → Type 0 where
@@ -110,7 +113,7 @@ pub data SpellsFrame : Frame → List TokenKind → Type 0 where
   frame_absolute : (left : Before) (ts : List TokenKind) → SpellsBefore left ts
       → SpellsFrame (an_absolute left) (ts ++ token.Key key.Abs ∷ token.Sign sign.ParenLeft ∷ [])
   frame_choice : (op : Operator) (k : Key) (left : Before) (first : Option Number) (ts us : List TokenKind) → IsChoice op k → SpellsBefore left ts
-      → SpellsFirst op first us → SpellsFrame (a_choice op left first) (ts ++ token.Key k ∷ token.Sign sign.ParenLeft ∷ us)
+      → SpellsFirst op first us → SpellsFrame (an_extreme op left first) (ts ++ token.Key k ∷ token.Sign sign.ParenLeft ∷ us)
 
 -- the tokens of all that is open, the innermost frame's last
 pub data SpellsFrames : List Frame → List TokenKind → Type 0 where
@@ -124,9 +127,37 @@ pub data IsCall : Number → Key → Type 0 where
   is_period : IsCall period key.Period
   is_days : IsCall days key.Days
 
+-- the tokens of a schedule up to its first date, and these
+abbrev pub from_tokens : Day → List TokenKind → List TokenKind
+from_tokens first rest = token.Key key.Schedule ∷ token.Key key.From ∷ token.Date first ∷ rest
+
+-- the tokens of a schedule up to its last date, and these
+abbrev pub to_tokens : Day → Day → List TokenKind → List TokenKind
+to_tokens first last rest = from_tokens first (token.Key key.To ∷ token.Date last ∷ rest)
+
+-- the tokens of a schedule up to its count, and these
+abbrev pub every_tokens : Day → Day → List ℕ → List TokenKind → List TokenKind
+every_tokens first last digits rest = to_tokens first last (token.Key key.Every ∷ token.Number digits ∷ rest)
+
+-- the tokens of the terms of a schedule that are read so far
+pub data SpellsHeading : Heading → List TokenKind → Type 0 where
+  read_schedule : SpellsHeading from_next (token.Key key.Schedule ∷ [])
+  read_from : SpellsHeading first_next (token.Key key.Schedule ∷ token.Key key.From ∷ [])
+  read_first : (first : Day) → SpellsHeading (to_next first) (from_tokens first [])
+  read_to : (first : Day) → SpellsHeading (last_next first) (from_tokens first (token.Key key.To ∷ []))
+  read_last : (first last : Day) → SpellsHeading (every_next first last) (to_tokens first last [])
+  read_every : (first last : Day) → SpellsHeading (count_next first last) (to_tokens first last (token.Key key.Every ∷ []))
+  read_count : (first last : Day) (digits : List ℕ) (every : ℕ) → SpellsCount digits every
+      → SpellsHeading (unit_next first last every) (every_tokens first last digits [])
+  read_unit : (first last : Day) (digits : List ℕ) (every : ℕ) (unit : StepUnit) → SpellsCount digits every
+      → SpellsHeading (rule_next first last every unit) (every_tokens first last digits (token.Word (unit_word unit) ∷ []))
+  read_rule : (terms : Terms) (digits : List ℕ) → SpellsCount digits terms.every
+      → SpellsHeading (do_next terms) (every_tokens terms.first terms.last digits (token.Word (unit_word terms.unit) ∷ rule_tokens terms.rule))
+
 -- the tokens inside the innermost frame up to a place
 pub data SpellsMode : Mode → List TokenKind → Type 0 where
   at_free : SpellsMode free []
+  at_heading : (awaited : Heading) (ts : List TokenKind) → SpellsHeading awaited ts → SpellsMode (heading awaited) ts
   at_name : (name : List ℕ) → IsName name → SpellsMode (named name) (token.Word name ∷ [])
   at_atom : (left : Before) (ts : List TokenKind) → SpellsBefore left ts → SpellsMode (factor_next left) ts
   at_factor : (sum : Sum) (term : Number) (ts us : List TokenKind) → SpellsSum sum ts → SpellsTerm us term → SpellsMode (after sum term) (ts ++ us)

@@ -1,21 +1,27 @@
 -- A script that tokens spell is read from them.
 use Rattle.std.proofs.Common.{◌≡◌, ℕ, List, [], ◌∷◌, ◌++◌, Some, None, refl, sym, ap, ◌∙◌, append_assoc}
+use Rattle.std.specs.Option.{option_map}
 use Rattle.pay_dates.specs.declared.day.Day.{Day}
+use Rattle.pay_dates.specs.declared.roll.Rule.{Rule}
+use Rattle.pay_dates.specs.declared.roll.Rule.TheVariants.{Stay, Following, Preceding, Modified}
+use Rattle.pay_dates.specs.declared.roll.Unit.{Unit as StepUnit}
 use Rattle.pay_lexer.specs.declared.token.Key.TheVariants as key
 use Rattle.pay_lexer.specs.declared.token.Sign.TheVariants as sign
 use Rattle.pay_lexer.specs.declared.token.TokenKind.{TokenKind}
 use Rattle.pay_lexer.specs.declared.token.TokenKind.TheVariants as token
-use Rattle.pay_meaning.specs.Language.{Number, Condition, Statement, assign, pay, choose, Body, done, and_then, Item, Script}
-use Rattle.pay_meaning.specs.Words.{is_name, IsName}
+use Rattle.pay_meaning.specs.Language.{Number, Condition, Statement, assign, pay, choose, Body, done, and_then, Terms, Item, scheduled, Script}
+use Rattle.pay_meaning.specs.Words.{is_name, IsName, unit_word}
 use Rattle.pay_parser.specs.Grammar.{SpellsSimple, assignment, payment, SpellsStatement, simple, simple_ended, choice, choice_ended, SpellsChoice}
 use Rattle.pay_parser.specs.Grammar.{without_else, with_else, SpellsBody, no_statement, one_more, SpellsItem, SpellsScript, no_item, one_more_item}
-use Rattle.pay_parser.specs.Grammar.{SpellsNoScript}
+use Rattle.pay_parser.specs.Grammar.{SpellsNoScript, SpellsCount, rule_tokens, schedule_tokens, rolled}
 use Rattle.pay_parser.specs.Grammar.SpellsItem.{dated as of_date}
-use Rattle.pay_parser.specs.Reading.{Head, assigns, pays, Sum, no_logic, of_if, Owner, of_item, of_yes, of_no, Frame, a_script, a_body, a_statement}
-use Rattle.pay_parser.specs.Reading.{a_condition, free, after_endif, named, factor_next, after, State, state, start, fresh, summed, headed, dated}
-use Rattle.pay_parser.specs.Reading.{step_free, step, finish, closed, read_on, script_in}
+use Rattle.pay_parser.specs.Reading.{Head, assigns, pays, Sum, no_logic, of_if, Owner, of_item, of_schedule, of_yes, of_no, Frame, a_script, a_body}
+use Rattle.pay_parser.specs.Reading.{a_statement, a_condition, from_next, count_next, unit_next, rule_next, free, heading, after_endif, named}
+use Rattle.pay_parser.specs.Reading.{factor_next, after, State, state, start, fresh, summed, headed, dated, terms_of, begun, step_free, step}
+use Rattle.pay_parser.specs.Reading.{finish, closed, read_on, script_in}
 use Rattle.pay_parser.specs.GrammarLaws.{SpelledScriptIsRead, OneScript}
 use Rattle.pay_parser.proofs.ConditionComplete.{passed, read_step, number_read, ReadsCondition, condition_read, then_read}
+use Rattle.pay_parser.proofs.CountLemmas.{count_read, unit_read}
 
 -- the places that may stand after statements: between statements, after the last one's number, or after the last one's `endif`
 data Stands : Owner → List Frame → Body → State → Type 0 where
@@ -60,11 +66,25 @@ stands_endif _ _ _ _ (after_number owner outer body head sum term last e) =
     ap (λ x. step_free (a_body owner (and_then body x) ∷ outer) (token.Key key.Endif)) e
 stands_endif _ _ _ _ (after_choice owner outer body) = refl
 
+stands_schedule : (owner : Owner) (outer : List Frame) (body : Body) (place : State) → Stands owner outer body place
+    → step place (token.Key key.Schedule) ≡ step_free (a_body owner body ∷ outer) (token.Key key.Schedule)
+stands_schedule _ _ _ _ (freely owner outer body) = refl
+stands_schedule _ _ _ _ (after_number owner outer body head sum term last e) =
+    ap (λ x. step_free (a_body owner (and_then body x) ∷ outer) (token.Key key.Schedule)) e
+stands_schedule _ _ _ _ (after_choice owner outer body) = refl
+
 stands_end : (owner : Owner) (outer : List Frame) (body : Body) (place : State) → Stands owner outer body place
-    → finish place ≡ closed (a_body owner body ∷ outer)
+    → step place (token.Key key.End) ≡ step_free (a_body owner body ∷ outer) (token.Key key.End)
 stands_end _ _ _ _ (freely owner outer body) = refl
-stands_end _ _ _ _ (after_number owner outer body head sum term last e) = ap (λ x. closed (a_body owner (and_then body x) ∷ outer)) e
+stands_end _ _ _ _ (after_number owner outer body head sum term last e) =
+    ap (λ x. step_free (a_body owner (and_then body x) ∷ outer) (token.Key key.End)) e
 stands_end _ _ _ _ (after_choice owner outer body) = refl
+
+stands_last : (owner : Owner) (outer : List Frame) (body : Body) (place : State) → Stands owner outer body place
+    → finish place ≡ closed (a_body owner body ∷ outer)
+stands_last _ _ _ _ (freely owner outer body) = refl
+stands_last _ _ _ _ (after_number owner outer body head sum term last e) = ap (λ x. closed (a_body owner (and_then body x) ∷ outer)) e
+stands_last _ _ _ _ (after_choice owner outer body) = refl
 
 -- what stands after tokens that spell a statement with a number, without its `;`
 record ReadsSimple (ts : List TokenKind) (last : Statement) : Type 0 where
@@ -193,12 +213,47 @@ mutual
       let r = body_read ts b k owner outer in
       leads_on (state (a_body owner done ∷ outer) free) ts us owner outer b (and_then b s) r (statement_read us s m owner outer b r.to r.stands)
 
--- what stands after tokens that spell items: a place from which a date begins one more item, and the script may end
+-- a rule and `do`, or `do` alone, lead to the first statement of a schedule
+rule_read : (first last : Day) (every : ℕ) (unit : StepUnit) (rule : Rule) (frames : List Frame) (us rest : List TokenKind)
+    → read_on (state frames (heading (rule_next first last every unit))) (((rule_tokens rule ++ token.Key key.Do ∷ []) ++ us) ++ rest)
+    ≡ read_on (begun frames (terms_of first last every unit rule)) (us ++ rest)
+rule_read first last every unit Stay frames us rest = refl
+rule_read first last every unit Following frames us rest = refl
+rule_read first last every unit Preceding frames us rest = refl
+rule_read first last every unit Modified frames us rest = refl
+
+-- the terms of a schedule lead to its first statement
+terms_read : (terms : Terms) (digits : List ℕ) → SpellsCount digits terms.every → (place : State) (frames : List Frame) (us rest : List TokenKind)
+    → step place (token.Key key.Schedule) ≡ Some (state frames (heading from_next))
+    → read_on place ((schedule_tokens terms digits ++ us) ++ rest) ≡ read_on (begun frames terms) (us ++ rest)
+terms_read terms digits k place frames us rest e =
+    let words = rule_tokens terms.rule ++ token.Key key.Do ∷ [] in
+    let dates = token.Date terms.first ∷ token.Key key.To ∷ token.Date terms.last ∷ token.Key key.Every ∷ [] in
+    let unit = token.Word (unit_word terms.unit) in
+    let counts = state frames (heading (count_next terms.first terms.last)) in
+    let units = state frames (heading (unit_next terms.first terms.last terms.every)) in
+    let rules = state frames (heading (rule_next terms.first terms.last terms.every terms.unit)) in
+    let later = (words ++ us) ++ rest in
+    read_step place (token.Key key.Schedule) (state frames (heading from_next)) (token.Key key.From ∷ (dates ++ token.Number digits ∷ unit ∷ later)) e
+    ∙ read_step counts (token.Number digits) units (unit ∷ later)
+    (ap (option_map (λ every. state frames (heading (unit_next terms.first terms.last every)))) (count_read digits terms.every k))
+    ∙ read_step units unit rules later
+    (ap (option_map (λ x. state frames (heading (rule_next terms.first terms.last terms.every x)))) (unit_read terms.unit))
+    ∙ rule_read terms.first terms.last terms.every terms.unit terms.rule frames us rest
+
+-- what stands after tokens that spell items: a place from which a date or `schedule` begins one more item, and the script may end
 record ReadsScript (ts : List TokenKind) (items : Script) : Type 0 where
   to : State
   dates : (date : Day) → step to (token.Date date) ≡ Some (dated date items)
+  schedules : step to (token.Key key.Schedule) ≡ Some (state (a_script items ∷ []) (heading from_next))
   ends : finish to ≡ Some items
   reads : (rest : List TokenKind) → read_on start (ts ++ rest) ≡ read_on to rest
+
+-- tokens that lead to the place where no item is open, as after the `end` of a schedule
+between_read : (ts : List TokenKind) (items : Script)
+    → ((rest : List TokenKind) → read_on start (ts ++ rest) ≡ read_on (state (a_script items ∷ []) free) rest) → ReadsScript ts items
+between_read ts items reads =
+    record { to = state (a_script items ∷ []) free; dates = λ date. refl; schedules = refl; ends = refl; reads = reads }
 
 item_read : (ts us : List TokenKind) (items : Script) (i : Item) → ReadsScript ts items → SpellsItem us i → ReadsScript (ts ++ us) (items ++ i ∷ [])
 item_read ts _ items _ r (of_date date us b k) =
@@ -206,15 +261,27 @@ item_read ts _ items _ r (of_date date us b k) =
     record {
       to = m.to;
       dates = λ following. stands_date (of_item date) (a_script items ∷ []) b m.to following m.stands;
-      ends = stands_end (of_item date) (a_script items ∷ []) b m.to m.stands;
+      schedules = stands_schedule (of_item date) (a_script items ∷ []) b m.to m.stands;
+      ends = stands_last (of_item date) (a_script items ∷ []) b m.to m.stands;
       reads =
           λ rest. rw append_assoc (r.reads (token.Date date ∷ us ++ rest)
           ∙ read_step r.to (token.Date date) (dated date items) (us ++ rest) (r.dates date)
           ∙ m.reads rest);
     }
+item_read ts _ items _ r (rolled terms digits us b c k) =
+    let outer = a_script items ∷ [] in
+    let m = body_read us b k (of_schedule terms) outer in
+    let ended = us ++ token.Key key.End ∷ [] in
+    let to = state (a_script (items ++ scheduled terms b ∷ []) ∷ []) free in
+    between_read (ts ++ (schedule_tokens terms digits ++ ended)) (items ++ scheduled terms b ∷ [])
+    (λ rest. ap (read_on start) (append_assoc ts (schedule_tokens terms digits ++ ended) rest)
+    ∙ r.reads ((schedule_tokens terms digits ++ ended) ++ rest)
+    ∙ terms_read terms digits c r.to outer ended rest r.schedules
+    ∙ leads_past (begun outer terms) us (of_schedule terms) outer b m (token.Key key.End) [] rest to
+    (stands_end (of_schedule terms) outer b m.to m.stands))
 
 items_read : (ts : List TokenKind) (items : Script) → SpellsScript ts items → ReadsScript ts items
-items_read _ _ no_item = record { to = start; dates = λ date. refl; ends = refl; reads = λ rest. refl }
+items_read _ _ no_item = between_read [] [] (λ rest. refl)
 items_read _ _ (one_more_item ts us items i k m) = item_read ts us items i (items_read ts items k) m
 
 append_nil : (ts : List TokenKind) → ts ++ [] ≡ ts

@@ -3,6 +3,8 @@ use Rattle.std.proofs.Common.{◌≡◌, ℕ, zero, suc, ℤ, Bool, true, false,
 use Rattle.std.proofs.Common.{if◌then◌else◌, refl, append_assoc, append-nil}
 use Rattle.std.specs.Option.{IfSome, option_map, option_and_then}
 use Rattle.pay_dates.specs.declared.day.Day.{Day}
+use Rattle.pay_dates.specs.declared.roll.Rule.TheVariants as rules
+use Rattle.pay_dates.specs.declared.roll.Unit.{Unit as StepUnit}
 use Rattle.pay_fixed.specs.declared.NumberFault.{NumberFault}
 use Rattle.pay_fixed.specs.Decimal.{decimal_in}
 use Rattle.pay_fixed.proofs.AsSpelled.{raw-spelled}
@@ -12,31 +14,36 @@ use Rattle.pay_lexer.specs.declared.token.Sign.TheVariants as sign
 use Rattle.pay_lexer.specs.declared.token.TokenKind.{TokenKind}
 use Rattle.pay_lexer.specs.declared.token.TokenKind.TheVariants as token
 use Rattle.pay_meaning.specs.Language.{least, greatest, Number, literal, variable, spot, period, days, absolute, binary, Comparison, less, at_most}
-use Rattle.pay_meaning.specs.Language.{greater, at_least, equals, differs, bare, Condition, compare, Statement, Body, done, and_then, plain, Script}
-use Rattle.pay_meaning.specs.Words.{is_name, IsName}
+use Rattle.pay_meaning.specs.Language.{greater, at_least, equals, differs, bare, Condition, compare, Statement, Body, done, and_then, Terms, plain}
+use Rattle.pay_meaning.specs.Language.{scheduled, Script}
+use Rattle.pay_meaning.specs.Words.{is_name, IsName, unit_word}
 use Rattle.pay_parser.specs.Grammar.{SpellsNumber, SpellsTerm, one_atom, SpellsAtom, of_literal, of_variable, in_brackets, of_absolute, sign_of}
 use Rattle.pay_parser.specs.Grammar.{SpellsNegation, two_numbers, condition_in_brackets, SpellsSimple, SpellsStatement, simple, simple_ended, choice}
-use Rattle.pay_parser.specs.Grammar.{choice_ended, SpellsChoice, without_else, with_else, SpellsBody, no_statement, one_more, SpellsScript, no_item}
-use Rattle.pay_parser.specs.Grammar.{one_more_item}
+use Rattle.pay_parser.specs.Grammar.{choice_ended, SpellsChoice, without_else, with_else, SpellsBody, no_statement, one_more, SpellsCount, rolled}
+use Rattle.pay_parser.specs.Grammar.{SpellsScript, no_item, one_more_item}
 use Rattle.pay_parser.specs.Grammar.SpellsItem.{dated as of_date}
 use Rattle.pay_parser.specs.Reading.{assigns, pays, Sum, no_sum, no_product, Before, Logic, a_logic, Opening, of_if, of_bracket, Owner, of_item}
-use Rattle.pay_parser.specs.Reading.{of_no, Frame, a_script, a_body, a_statement, a_condition, a_comparison, a_bracket, Mode, free, named}
-use Rattle.pay_parser.specs.Reading.{factor_next, State, state, start, fresh, summed, signed_by, arrived, headed, no_logic, condition_of, with_and}
-use Rattle.pay_parser.specs.Reading.{with_or, with_not, with_statement, ended, closed, dated, step_word, step_if, step_else, step_endif, step_free}
-use Rattle.pay_parser.specs.Reading.{step_after_endif, step_named, step_literal, with_sign, is_fresh, may_compare, step_open, step_not, step_factor}
-use Rattle.pay_parser.specs.Reading.{step_bracket, step_call_named, step_call_opened, step_group, step_then, step_and, step_or, step_condition}
-use Rattle.pay_parser.specs.Reading.{step_compared, step_comparison, step_number_group, step_close, step_comma, step_semicolon, step_ended}
-use Rattle.pay_parser.specs.Reading.{step_after, step_in, step, finish_in, finish, read_on, script_in}
+use Rattle.pay_parser.specs.Reading.{of_schedule, of_no, Frame, a_script, a_body, a_statement, a_condition, a_comparison, a_bracket, Heading}
+use Rattle.pay_parser.specs.Reading.{from_next, count_next, unit_next, rule_next, Mode, free, heading, named, factor_next, State, state, start, fresh}
+use Rattle.pay_parser.specs.Reading.{summed, signed_by, arrived, headed, no_logic, condition_of, with_and, with_or, with_not, with_statement, ended}
+use Rattle.pay_parser.specs.Reading.{closed, dated, step_schedule, step_end, count_in, unit_in, terms_of, begun, step_heading, step_word, step_if}
+use Rattle.pay_parser.specs.Reading.{step_else, step_endif, step_free, step_after_endif, step_named, step_literal, with_sign, is_fresh, may_compare}
+use Rattle.pay_parser.specs.Reading.{step_open, step_not, step_factor, step_bracket, step_call_named, step_call_opened, step_group, step_then}
+use Rattle.pay_parser.specs.Reading.{step_and, step_or, step_condition, step_compared, step_comparison, step_number_group, step_close, step_comma}
+use Rattle.pay_parser.specs.Reading.{step_semicolon, step_ended, step_after, step_in, step, finish_in, finish, read_on, script_in}
 use Rattle.pay_parser.specs.GrammarLaws.{ScriptIsSpelled}
 use Rattle.pay_parser.proofs.PlaceSpelled.{SpellsSum, sum_none, sum_of_plus, sum_of_minus, product_none, product_of_times, product_of_over, signs_of}
 use Rattle.pay_parser.proofs.PlaceSpelled.{SpellsBefore, stands_left, no_or, no_and, nots_of, SpellsLogic, logic_left, opening_of, SpellsOwner}
-use Rattle.pay_parser.proofs.PlaceSpelled.{owner_item, owner_yes, owner_no, head_assigns, head_pays, is_least, is_greatest, no_first, SpellsWord}
-use Rattle.pay_parser.proofs.PlaceSpelled.{word_absolute, word_choice, SpellsFrame, frame_script, frame_body, frame_statement, frame_condition}
-use Rattle.pay_parser.proofs.PlaceSpelled.{frame_comparison, frame_bracket, frame_absolute, frame_choice, SpellsFrames, none_open, one_inside, IsCall}
-use Rattle.pay_parser.proofs.PlaceSpelled.{is_spot, is_period, is_days, SpellsMode, at_free, at_name, at_atom, at_factor, at_condition, at_word}
-use Rattle.pay_parser.proofs.PlaceSpelled.{at_call, at_bracket, Past, past, past_choice, past_is, past_choice_is, past_inside, past_term, past_fresh}
-use Rattle.pay_parser.proofs.PlaceSpelled.{factor_of, term_of, number_of, whole_condition, nothing_left, left_and, left_or, left_not, nothing_before}
-use Rattle.pay_parser.proofs.PlaceSpelled.{compare_before, simple_of, arguments_of, first_of_more, choice_of, call_of}
+use Rattle.pay_parser.proofs.PlaceSpelled.{owner_item, owner_schedule, owner_yes, owner_no, head_assigns, head_pays, is_least, is_greatest, no_first}
+use Rattle.pay_parser.proofs.PlaceSpelled.{SpellsWord, word_absolute, word_choice, SpellsFrame, frame_script, frame_body, frame_statement}
+use Rattle.pay_parser.proofs.PlaceSpelled.{frame_condition, frame_comparison, frame_bracket, frame_absolute, frame_choice, SpellsFrames, none_open}
+use Rattle.pay_parser.proofs.PlaceSpelled.{one_inside, IsCall, is_spot, is_period, is_days, to_tokens, every_tokens, SpellsHeading, read_schedule}
+use Rattle.pay_parser.proofs.PlaceSpelled.{read_from, read_first, read_to, read_last, read_every, read_count, read_unit, read_rule, SpellsMode}
+use Rattle.pay_parser.proofs.PlaceSpelled.{at_free, at_heading, at_name, at_atom, at_factor, at_condition, at_word, at_call, at_bracket, Past, past}
+use Rattle.pay_parser.proofs.PlaceSpelled.{past_choice, past_is, past_choice_is, past_inside, past_term, past_fresh, factor_of, term_of, number_of}
+use Rattle.pay_parser.proofs.PlaceSpelled.{whole_condition, nothing_left, left_and, left_or, left_not, nothing_before, compare_before, simple_of}
+use Rattle.pay_parser.proofs.PlaceSpelled.{arguments_of, first_of_more, choice_of, call_of}
+use Rattle.pay_parser.proofs.ScheduleLemmas.{count_spelled, unit_spelled}
 
 -- what holds of an option's value holds of what is made from it
 some_map : {A B : Type 0} (P : A → Type 0) (Q : B → Type 0) (f : A → B) (o : Option A) → IfSome o P → ((x : A) → P x → Q (f x)) → IfSome (option_map f o) Q
@@ -47,6 +54,11 @@ some_then : {A B : Type 0} (P : A → Type 0) (Q : B → Type 0) (f : A → Opti
     → IfSome (option_and_then f o) Q
 some_then P Q f None k go = tt
 some_then P Q f (Some x) k go = go x k
+
+-- what holds of each value that an option may have holds of its value
+some_of : {A : Type 0} (P : A → Type 0) (o : Option A) → ((x : A) → o ≡ Some x → P x) → IfSome o P
+some_of P None go = tt
+some_of P (Some x) go = go x refl
 
 -- one more statement among those that are open
 more_spelled : (frames : List Frame) (s : Statement) (ts us : List TokenKind) → SpellsFrames frames ts → SpellsStatement us s
@@ -83,6 +95,88 @@ past_date items date ts k =
     let before_it = one_inside (a_script items) [] [] ts (frame_script items ts k) none_open in
     past_inside (a_body (of_item date) done) (a_script items ∷ []) free ts (token.Date date ∷ []) [] _ before_it
     (frame_body (of_item date) done (token.Date date ∷ []) [] (owner_item date) no_statement) at_free (append-nil _)
+
+-- after `schedule`
+past_schedule : (frames : List Frame) (ts : List TokenKind) → SpellsFrames frames ts
+    → IfSome (step_schedule frames) (λ place. Past place (ts ++ token.Key key.Schedule ∷ []))
+past_schedule frames ts k =
+    some_map (λ s. SpellsScript ts s) (λ place. Past place (ts ++ token.Key key.Schedule ∷ [])) (λ items. state (a_script items ∷ []) (heading from_next))
+    (closed frames) (closed_spelled frames ts k)
+    (λ items l. past (a_script items ∷ []) (heading from_next) ts _ (one_inside (a_script items) [] [] ts (frame_script items ts l) none_open)
+    (at_heading from_next _ read_schedule))
+
+-- after `end`, which ends a schedule
+past_rolled : (frames : List Frame) (ts : List TokenKind) → SpellsFrames frames ts
+    → IfSome (step_end frames) (λ place. Past place (ts ++ token.Key key.End ∷ []))
+past_rolled _ _ (one_inside _ _ _ _ (frame_body _ body _ us (owner_schedule terms digits c) l) (one_inside _ _ _ _ (frame_script items ts k) none_open)) =
+    let whole = one_more_item ts _ items (scheduled terms body) k (rolled terms digits us body c l) in
+    let longer = items ++ scheduled terms body ∷ [] in
+    past_is (a_script longer ∷ []) free _ [] _ (one_inside (a_script longer) [] [] _ (frame_script longer _ whole) none_open) at_free
+    (simp (append_assoc, append-nil))
+past_rolled _ _ _ = tt
+
+-- after one more word, date or count in the terms of a schedule
+past_terms : (frames : List Frame) (awaited : Heading) (ts us vs : List TokenKind) (t : TokenKind) → SpellsFrames frames ts → SpellsHeading awaited vs
+    → vs ≡ us ++ t ∷ [] → Past (state frames (heading awaited)) ((ts ++ us) ++ t ∷ [])
+past_terms frames awaited ts us vs t k l e =
+    past_is frames (heading awaited) ts vs _ k (at_heading awaited vs l) (rw e (simp append_assoc))
+
+-- after the count
+past_count : (frames : List Frame) (first last : Day) (ts : List TokenKind) (digits : List ℕ) → SpellsFrames frames ts
+    → IfSome (step_heading frames (count_next first last) (token.Number digits))
+    (λ place. Past place ((ts ++ to_tokens first last (token.Key key.Every ∷ [])) ++ token.Number digits ∷ []))
+past_count frames first last ts digits k =
+    some_map (λ every. SpellsCount digits every) (λ place. Past place ((ts ++ to_tokens first last (token.Key key.Every ∷ [])) ++ token.Number digits ∷ []))
+    (λ every. state frames (heading (unit_next first last every))) (count_in digits)
+    (some_of (λ every. SpellsCount digits every) (count_in digits) (count_spelled digits))
+    (λ every c. past_terms frames _ ts _ _ _ k (read_count first last digits every c) refl)
+
+-- after the unit
+past_unit : (frames : List Frame) (first last : Day) (digits : List ℕ) (every : ℕ) (ts : List TokenKind) (letters : List ℕ) → SpellsFrames frames ts
+    → SpellsCount digits every → IfSome (step_heading frames (unit_next first last every) (token.Word letters))
+    (λ place. Past place ((ts ++ every_tokens first last digits []) ++ token.Word letters ∷ []))
+past_unit frames first last digits every ts letters k c =
+    some_map (λ unit. letters ≡ unit_word unit) (λ place. Past place ((ts ++ every_tokens first last digits []) ++ token.Word letters ∷ []))
+    (λ unit. state frames (heading (rule_next first last every unit))) (unit_in letters)
+    (some_of (λ unit. letters ≡ unit_word unit) (unit_in letters) (unit_spelled letters))
+    (λ unit e. rw e (past_terms frames _ ts _ _ _ k (read_unit first last digits every unit c) refl))
+
+-- after `do`
+past_begun : (frames : List Frame) (terms : Terms) (ts us vs : List TokenKind) → SpellsFrames frames ts → SpellsOwner (of_schedule terms) vs
+    → vs ≡ us ++ token.Key key.Do ∷ [] → Past (begun frames terms) ((ts ++ us) ++ token.Key key.Do ∷ [])
+past_begun frames terms ts us vs k o e =
+    past_inside (a_body (of_schedule terms) done) frames free ts _ [] _ k (frame_body (of_schedule terms) done vs [] o no_statement) at_free
+    (rw e (simp (append_assoc, append-nil)))
+
+-- after a rule, or `do` in its place
+past_rule : (frames : List Frame) (first last : Day) (digits : List ℕ) (every : ℕ) (unit : StepUnit) (ts : List TokenKind) (t : TokenKind)
+    → SpellsFrames frames ts → SpellsCount digits every → IfSome (step_heading frames (rule_next first last every unit) t)
+    (λ place. Past place ((ts ++ every_tokens first last digits (token.Word (unit_word unit) ∷ [])) ++ t ∷ []))
+past_rule frames first last digits every unit ts (token.Key key.Following) k c =
+    past_terms frames _ ts _ _ _ k (read_rule (terms_of first last every unit rules.Following) digits c) refl
+past_rule frames first last digits every unit ts (token.Key key.Preceding) k c =
+    past_terms frames _ ts _ _ _ k (read_rule (terms_of first last every unit rules.Preceding) digits c) refl
+past_rule frames first last digits every unit ts (token.Key key.Modified) k c =
+    past_terms frames _ ts _ _ _ k (read_rule (terms_of first last every unit rules.Modified) digits c) refl
+past_rule frames first last digits every unit ts (token.Key key.Do) k c =
+    let terms = terms_of first last every unit rules.Stay in
+    past_begun frames terms ts _ _ k (owner_schedule terms digits c) refl
+past_rule frames first last digits every unit ts _ k c = tt
+
+-- in the terms of a schedule
+past_heading : (frames : List Frame) (awaited : Heading) (ts us : List TokenKind) (t : TokenKind) → SpellsFrames frames ts → SpellsHeading awaited us
+    → IfSome (step_heading frames awaited t) (λ place. Past place ((ts ++ us) ++ t ∷ []))
+past_heading frames _ ts _ (token.Key key.From) k read_schedule = past_terms frames _ ts _ _ _ k read_from refl
+past_heading frames _ ts _ (token.Date first) k read_from = past_terms frames _ ts _ _ _ k (read_first first) refl
+past_heading frames _ ts _ (token.Key key.To) k (read_first first) = past_terms frames _ ts _ _ _ k (read_to first) refl
+past_heading frames _ ts _ (token.Date last) k (read_to first) = past_terms frames _ ts _ _ _ k (read_last first last) refl
+past_heading frames _ ts _ (token.Key key.Every) k (read_last first last) = past_terms frames _ ts _ _ _ k (read_every first last) refl
+past_heading frames _ ts _ (token.Number digits) k (read_every first last) = past_count frames first last ts digits k
+past_heading frames _ ts _ (token.Word letters) k (read_count first last digits every c) = past_unit frames first last digits every ts letters k c
+past_heading frames _ ts _ t k (read_unit first last digits every unit c) = past_rule frames first last digits every unit ts t k c
+past_heading frames _ ts _ (token.Key key.Do) k (read_rule terms digits c) =
+    past_begun frames terms ts _ _ k (owner_schedule terms digits c) refl
+past_heading frames _ ts _ _ k _ = tt
 
 -- a test that leads on, where it holds
 past_chosen : (test : Bool) (to : State) (front : List TokenKind) → (IsTrue test → Past to front)
@@ -128,6 +222,8 @@ past_free frames ts (token.Date date) k =
     some_map (λ s. SpellsScript ts s) (λ place. Past place (ts ++ token.Date date ∷ [])) (dated date) (closed frames)
     (closed_spelled frames ts k) (λ items l. past_date items date ts l)
 past_free frames ts (token.Word letters) k = past_word frames ts letters k
+past_free frames ts (token.Key key.Schedule) k = past_schedule frames ts k
+past_free frames ts (token.Key key.End) k = past_rolled frames ts k
 past_free frames ts (token.Key key.If) k = past_if frames ts k
 past_free frames ts (token.Key key.Else) k = past_else frames ts k
 past_free frames ts (token.Key key.Endif) k = past_endif frames ts k
@@ -379,6 +475,10 @@ past_after frames sum term ts us vs (token.Date date) k l m =
     past_ended frames (summed sum term) ts (us ++ vs) (token.Date date) k (number_of sum term us vs l m)
 past_after frames sum term ts us vs (token.Word letters) k l m =
     past_ended frames (summed sum term) ts (us ++ vs) (token.Word letters) k (number_of sum term us vs l m)
+past_after frames sum term ts us vs (token.Key key.Schedule) k l m =
+    past_ended frames (summed sum term) ts (us ++ vs) (token.Key key.Schedule) k (number_of sum term us vs l m)
+past_after frames sum term ts us vs (token.Key key.End) k l m =
+    past_ended frames (summed sum term) ts (us ++ vs) (token.Key key.End) k (number_of sum term us vs l m)
 past_after frames sum term ts us vs (token.Key key.If) k l m =
     past_ended frames (summed sum term) ts (us ++ vs) (token.Key key.If) k (number_of sum term us vs l m)
 past_after frames sum term ts us vs (token.Key key.Else) k l m =
@@ -396,6 +496,7 @@ past_after frames sum term ts us vs _ k l m = tt
 past_in : (frames : List Frame) (mode : Mode) (ts us : List TokenKind) (t : TokenKind) → SpellsFrames frames ts → SpellsMode mode us
     → IfSome (step_in frames mode t) (λ place. Past place ((ts ++ us) ++ t ∷ []))
 past_in frames _ ts _ t k at_free = rw append-nil (past_free frames ts t k)
+past_in frames _ ts _ t k (at_heading awaited us l) = past_heading frames awaited ts us t k l
 past_in frames _ ts _ t k (at_name name h) = past_named frames name ts t k h
 past_in frames _ ts _ t k (at_atom left us l) = past_want frames left ts us t k l
 past_in frames _ ts _ t k (at_factor sum term us vs l m) = past_after frames sum term ts us vs t k l m

@@ -1,6 +1,9 @@
 -- The grammar of scripts: which tokens spell which number, condition, statement, item and script, over all ways to cut the tokens.
-use Rattle.std.specs.Prelude.{ℕ, ℤ, List, [], ◌∷◌, ◌++◌}
+use Rattle.std.specs.Prelude.{ℕ, ◌*◌, ◌==◌, ℤ, pos, not, List, [], ◌∷◌, ◌++◌, IsTrue}
+use Rattle.std.specs.List.{list_all}
 use Rattle.pay_dates.specs.declared.day.Day.{Day}
+use Rattle.pay_dates.specs.declared.roll.Rule.{Rule}
+use Rattle.pay_dates.specs.declared.roll.Rule.TheVariants.{Stay, Following, Preceding, Modified}
 use Rattle.pay_fixed.specs.Grammar.{SpellsRaw}
 use Rattle.pay_lexer.specs.declared.token.Key.TheVariants as key
 use Rattle.pay_lexer.specs.declared.token.Sign.{Sign}
@@ -9,9 +12,9 @@ use Rattle.pay_lexer.specs.declared.token.TokenKind.{TokenKind}
 use Rattle.pay_lexer.specs.declared.token.TokenKind.TheVariants as token
 use Rattle.pay_meaning.specs.Language.{Operator, add, subtract, multiply, divide, least, greatest, Number, literal, variable, spot, period, days}
 use Rattle.pay_meaning.specs.Language.{negative, absolute, binary, Comparison, less, at_most, greater, at_least, equals, differs, bare, Condition}
-use Rattle.pay_meaning.specs.Language.{compare, negation, conjunction, disjunction, Statement, assign, pay, choose, Body, done, and_then, Item}
-use Rattle.pay_meaning.specs.Language.{plain, Script}
-use Rattle.pay_meaning.specs.Words.{IsName}
+use Rattle.pay_meaning.specs.Language.{compare, negation, conjunction, disjunction, Statement, assign, pay, choose, Body, done, and_then, Terms}
+use Rattle.pay_meaning.specs.Language.{Item, plain, scheduled, Script}
+use Rattle.pay_meaning.specs.Words.{IsName, unit_word}
 
 -- these tokens in brackets
 abbrev pub bracketed : List TokenKind → List TokenKind
@@ -111,9 +114,29 @@ mutual
     no_statement : SpellsBody [] done
     one_more : (ts us : List TokenKind) (b : Body) (s : Statement) → SpellsBody ts b → SpellsStatement us s → SpellsBody (ts ++ us) (and_then b s)
 
--- a date, and the statements on it
+-- a number token without a point, and the count that it is; a raw is a ten-thousandth
+pub record SpellsCount (digits : List ℕ) (count : ℕ) : Type 0 where
+  pub no_point : IsTrue (list_all (λ byte. not (byte == 46)) digits)
+  pub value : SpellsRaw digits (pos (count * 10_000))
+
+-- the word of a rule, if there is one
+abbrev pub rule_tokens : Rule → List TokenKind
+rule_tokens Stay = []
+rule_tokens Following = token.Key key.Following ∷ []
+rule_tokens Preceding = token.Key key.Preceding ∷ []
+rule_tokens Modified = token.Key key.Modified ∷ []
+
+-- `schedule from date to date every count unit rule do`, by the digits of the count
+abbrev pub schedule_tokens : Terms → List ℕ → List TokenKind
+schedule_tokens terms digits =
+    token.Key key.Schedule ∷ token.Key key.From ∷ token.Date terms.first ∷ token.Key key.To ∷ token.Date terms.last ∷ token.Key key.Every
+    ∷ token.Number digits ∷ token.Word (unit_word terms.unit) ∷ (rule_tokens terms.rule ++ token.Key key.Do ∷ [])
+
+-- a date, and the statements on it; or a schedule, the statements on its dates, and `end`
 pub data SpellsItem : List TokenKind → Item → Type 0 where
   dated : (date : Day) (ts : List TokenKind) (b : Body) → SpellsBody ts b → SpellsItem (token.Date date ∷ ts) (plain date b)
+  rolled : (terms : Terms) (digits : List ℕ) (ts : List TokenKind) (b : Body) → SpellsCount digits terms.every → SpellsBody ts b
+      → SpellsItem (schedule_tokens terms digits ++ (ts ++ token.Key key.End ∷ [])) (scheduled terms b)
 
 -- any number of items
 pub data SpellsScript : List TokenKind → Script → Type 0 where

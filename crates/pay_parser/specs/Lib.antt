@@ -4,7 +4,6 @@ pub mod ReadingViews
 pub mod GrammarLaws
 pub mod TokenLimits
 pub mod TokenDepths
-pub mod CanonicalLaw
 pub mod LimitLaws
 pub mod DepthViews
 pub mod Parsing

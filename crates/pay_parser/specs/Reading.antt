@@ -1,9 +1,17 @@
 -- The script of tokens, by reading them one at a time: what is open, what is awaited, and which tokens lead on.
-use Rattle.std.specs.Prelude.{ℕ, zero, suc, ℤ, Bool, true, false, List, [], ◌∷◌, ◌++◌, Option, Some, None, Result, Ok, Err, if◌then◌else◌}
+use Rattle.std.specs.Prelude.{ℕ, zero, suc, ◌/◌, ◌%◌, ◌==◌, ℤ, pos, negsuc, Bool, true, false, not, List, [], ◌∷◌, ◌++◌, Option, Some, None}
+use Rattle.std.specs.Prelude.{Result, Ok, Err, if◌then◌else◌}
+use Rattle.std.specs.List.{list_all}
 use Rattle.std.specs.Option.{option_map, option_and_then}
+use Rattle.std.specs.Str.{bytes_eq}
 use Rattle.pay_dates.specs.declared.day.Day.{Day}
+use Rattle.pay_dates.specs.declared.roll.Rule.{Rule}
+use Rattle.pay_dates.specs.declared.roll.Rule.TheVariants as rules
+use Rattle.pay_dates.specs.declared.roll.Unit.{Unit as StepUnit}
+use Rattle.pay_dates.specs.declared.roll.Unit.TheVariants as units
 use Rattle.pay_fixed.specs.declared.NumberFault.{NumberFault}
 use Rattle.pay_fixed.specs.Decimal.{decimal_in}
+use Rattle.pay_lexer.specs.declared.token.Key.TheVariants.{Schedule, From, To, Every, Following, Preceding, Modified, Do, End}
 use Rattle.pay_lexer.specs.declared.token.Key.TheVariants.{If, Then, Else, Endif, Pays, Min, Max, Abs, Spot, Period, Days, Not, And, Or}
 use Rattle.pay_lexer.specs.declared.token.Sign.TheVariants.{Plus, Minus, Star, Slash, ParenLeft, ParenRight, Comma, Semicolon, Equals, Differs}
 use Rattle.pay_lexer.specs.declared.token.Sign.TheVariants.{Less, LessEq, More, MoreEq}
@@ -11,9 +19,9 @@ use Rattle.pay_lexer.specs.declared.token.TokenKind.{TokenKind}
 use Rattle.pay_lexer.specs.declared.token.TokenKind.TheVariants as token
 use Rattle.pay_meaning.specs.Language.{Operator, add, subtract, multiply, divide, least, greatest, Number, literal, variable, spot, period, days}
 use Rattle.pay_meaning.specs.Language.{negative, absolute, binary, Comparison, less, at_most, greater, at_least, equals, differs, bare, Condition}
-use Rattle.pay_meaning.specs.Language.{compare, negation, conjunction, disjunction, Statement, assign, pay, choose, Body, done, and_then, plain}
-use Rattle.pay_meaning.specs.Language.{Script}
-use Rattle.pay_meaning.specs.Words.{is_name}
+use Rattle.pay_meaning.specs.Language.{compare, negation, conjunction, disjunction, Statement, assign, pay, choose, Body, done, and_then, Terms}
+use Rattle.pay_meaning.specs.Language.{plain, scheduled, Script}
+use Rattle.pay_meaning.specs.Words.{is_name, unit_word}
 
 -- what a statement does with its number: it gives it to a variable, or pays it to a leg
 pub data Head : Type 0 where
@@ -45,9 +53,11 @@ pub data Opening : Type 0 where
   of_if : Opening
   of_bracket : Opening
 
--- what statements belong to: an item on a date; the first branch of an `if` with this condition; or its second, with that and the first branch
+-- What statements belong to: an item on a date; a schedule; the first branch of an `if` with this condition; or its second, with that and the
+-- first branch.
 pub data Owner : Type 0 where
   of_item : Day → Owner
+  of_schedule : Terms → Owner
   of_yes : Condition → Owner
   of_no : Condition → Body → Owner
 
@@ -62,13 +72,27 @@ pub data Frame : Type 0 where
   a_comparison : Comparison → Number → Frame
   a_bracket : Before → Frame
   an_absolute : Before → Frame
-  a_choice : Operator → Before → Option Number → Frame
+  an_extreme : Operator → Before → Option Number → Frame
 
--- What is awaited: a statement or an item; the same or a `;`, after `endif`; what follows the name that begins a statement; a factor; what
--- follows a factor, which ends this term after this sum; what follows this condition in brackets; the bracket that opens this frame; the two
--- brackets after a word that stands for this number.
+-- What is awaited in the terms of a schedule, after what is read of them: `from`, the first date, `to`, the last date, `every`, the count, the
+-- unit, a rule or `do`, and `do`.
+pub data Heading : Type 0 where
+  from_next : Heading
+  first_next : Heading
+  to_next : Day → Heading
+  last_next : Day → Heading
+  every_next : Day → Day → Heading
+  count_next : Day → Day → Heading
+  unit_next : Day → Day → ℕ → Heading
+  rule_next : Day → Day → ℕ → StepUnit → Heading
+  do_next : Terms → Heading
+
+-- What is awaited: a statement or an item; a word, a date or a count in the terms of a schedule; a statement, an item or a `;`, after `endif`; what
+-- follows the name that begins a statement; a factor; what follows a factor, which ends this term after this sum; what follows this condition in
+-- brackets; the bracket that opens this frame; the two brackets after a word that stands for this number.
 pub data Mode : Type 0 where
   free : Mode
+  heading : Heading → Mode
   after_endif : Mode
   named : List ℕ → Mode
   factor_next : Before → Mode
@@ -175,6 +199,63 @@ closed frames = None
 abbrev pub dated : Day → Script → State
 dated date items = state (a_body (of_item date) done ∷ a_script items ∷ []) free
 
+-- after `schedule`
+abbrev pub step_schedule : List Frame → Option State
+step_schedule frames = option_map (λ items. state (a_script items ∷ []) (heading from_next)) (closed frames)
+
+-- after `end`, which ends a schedule
+abbrev pub step_end : List Frame → Option State
+step_end (a_body (of_schedule terms) body ∷ a_script items ∷ []) = Some (state (a_script (items ++ scheduled terms body ∷ []) ∷ []) free)
+step_end frames = None
+
+-- the count that a raw is, if it is a whole one
+abbrev pub whole_of : ℤ → Option ℕ
+whole_of (pos raw) = if raw % 10_000 == 0 then Some (raw / 10_000) else None
+whole_of (negsuc n) = None
+
+-- the count that was read of a number token
+abbrev pub counted : Result ℤ NumberFault → Option ℕ
+counted (Ok raw) = whole_of raw
+counted (Err fault) = None
+
+-- the count that a number token without a point is
+abbrev pub count_in : List ℕ → Option ℕ
+count_in digits = if list_all (λ byte. not (byte == 46)) digits then counted (decimal_in digits) else None
+
+-- the unit that a word stands for
+abbrev pub unit_in : List ℕ → Option StepUnit
+unit_in word =
+    if bytes_eq word (unit_word units.Days) then Some units.Days else (if bytes_eq word (unit_word units.Weeks) then Some units.Weeks
+    else (if bytes_eq word (unit_word units.Months) then Some units.Months else (if bytes_eq word (unit_word units.Years) then Some units.Years else None)))
+
+-- the terms of a schedule, by its parts
+abbrev pub terms_of : Day → Day → ℕ → StepUnit → Rule → Terms
+terms_of first last every unit rule = record { first = first; last = last; every = every; unit = unit; rule = rule }
+
+-- before the first statement of a schedule
+abbrev pub begun : List Frame → Terms → State
+begun frames terms = state (a_body (of_schedule terms) done ∷ frames) free
+
+-- in the terms of a schedule
+abbrev pub step_heading : List Frame → Heading → TokenKind → Option State
+step_heading frames from_next (token.Key From) = Some (state frames (heading first_next))
+step_heading frames first_next (token.Date first) = Some (state frames (heading (to_next first)))
+step_heading frames (to_next first) (token.Key To) = Some (state frames (heading (last_next first)))
+step_heading frames (last_next first) (token.Date last) = Some (state frames (heading (every_next first last)))
+step_heading frames (every_next first last) (token.Key Every) = Some (state frames (heading (count_next first last)))
+step_heading frames (count_next first last) (token.Number digits) = option_map (λ every. state frames (heading (unit_next first last every))) (count_in digits)
+step_heading frames (unit_next first last every) (token.Word letters) =
+    option_map (λ unit. state frames (heading (rule_next first last every unit))) (unit_in letters)
+step_heading frames (rule_next first last every unit) (token.Key Following) =
+    Some (state frames (heading (do_next (terms_of first last every unit rules.Following))))
+step_heading frames (rule_next first last every unit) (token.Key Preceding) =
+    Some (state frames (heading (do_next (terms_of first last every unit rules.Preceding))))
+step_heading frames (rule_next first last every unit) (token.Key Modified) =
+    Some (state frames (heading (do_next (terms_of first last every unit rules.Modified))))
+step_heading frames (rule_next first last every unit) (token.Key Do) = Some (begun frames (terms_of first last every unit rules.Stay))
+step_heading frames (do_next terms) (token.Key Do) = Some (begun frames terms)
+step_heading frames awaited t = None
+
 -- after the word that begins a statement, which is a name
 abbrev pub step_word : List Frame → List ℕ → Option State
 step_word (a_body owner body ∷ rest) letters = if is_name letters then Some (state (a_body owner body ∷ rest) (named letters)) else None
@@ -194,10 +275,12 @@ step_else frames = None
 abbrev pub step_endif : List Frame → Option State
 step_endif frames = option_map (λ rest. state rest after_endif) (chosen frames)
 
--- between statements: the next item, the next statement, or the end of a branch
+-- between statements: the next item, the next statement, or the end of a branch or of a schedule
 abbrev pub step_free : List Frame → TokenKind → Option State
 step_free frames (token.Date date) = option_map (dated date) (closed frames)
 step_free frames (token.Word letters) = step_word frames letters
+step_free frames (token.Key Schedule) = step_schedule frames
+step_free frames (token.Key End) = step_end frames
 step_free frames (token.Key If) = step_if frames
 step_free frames (token.Key Else) = step_else frames
 step_free frames (token.Key Endif) = step_endif frames
@@ -253,8 +336,8 @@ step_factor frames left (token.Number digits) = step_literal frames left (decima
 step_factor frames left (token.Word letters) = step_variable frames left letters
 step_factor frames left (token.Sign Minus) = Some (state frames (factor_next (with_sign left)))
 step_factor frames left (token.Sign ParenLeft) = Some (step_open frames left)
-step_factor frames left (token.Key Min) = Some (state frames (bracket_next (a_choice least left None)))
-step_factor frames left (token.Key Max) = Some (state frames (bracket_next (a_choice greatest left None)))
+step_factor frames left (token.Key Min) = Some (state frames (bracket_next (an_extreme least left None)))
+step_factor frames left (token.Key Max) = Some (state frames (bracket_next (an_extreme greatest left None)))
 step_factor frames left (token.Key Abs) = Some (state frames (bracket_next (an_absolute left)))
 step_factor frames left (token.Key Spot) = Some (state frames (call_named spot left))
 step_factor frames left (token.Key Period) = Some (state frames (call_named period left))
@@ -324,7 +407,7 @@ step_number_group opening logic rest number = None
 abbrev pub step_close : List Frame → Number → Option State
 step_close (a_bracket left ∷ rest) number = Some (arrived rest left number)
 step_close (an_absolute left ∷ rest) number = Some (arrived rest left (absolute number))
-step_close (a_choice op left (Some first) ∷ rest) number = Some (arrived rest left (binary op first number))
+step_close (an_extreme op left (Some first) ∷ rest) number = Some (arrived rest left (binary op first number))
 step_close (a_comparison op left ∷ rest) number = step_group rest (compare op left number bare)
 step_close (a_condition opening logic ∷ rest) number = step_number_group opening logic rest number
 step_close frames number = None
@@ -336,7 +419,7 @@ with_argument op (Some first) number = binary op first number
 
 -- after `,`, which ends an argument of `min` or `max`
 abbrev pub step_comma : List Frame → Number → Option State
-step_comma (a_choice op left first ∷ rest) number = Some (state (a_choice op left (Some (with_argument op first number)) ∷ rest) (factor_next fresh))
+step_comma (an_extreme op left first ∷ rest) number = Some (state (an_extreme op left (Some (with_argument op first number)) ∷ rest) (factor_next fresh))
 step_comma frames number = None
 
 -- after `;`, which ends a statement with this number
@@ -364,6 +447,8 @@ step_after frames sum term (token.Sign Equals) = step_comparison frames (summed 
 step_after frames sum term (token.Sign Differs) = step_comparison frames (summed sum term) differs
 step_after frames sum term (token.Date date) = step_ended frames (summed sum term) (token.Date date)
 step_after frames sum term (token.Word letters) = step_ended frames (summed sum term) (token.Word letters)
+step_after frames sum term (token.Key Schedule) = step_ended frames (summed sum term) (token.Key Schedule)
+step_after frames sum term (token.Key End) = step_ended frames (summed sum term) (token.Key End)
 step_after frames sum term (token.Key If) = step_ended frames (summed sum term) (token.Key If)
 step_after frames sum term (token.Key Else) = step_ended frames (summed sum term) (token.Key Else)
 step_after frames sum term (token.Key Endif) = step_ended frames (summed sum term) (token.Key Endif)
@@ -375,6 +460,7 @@ step_after frames sum term t = None
 -- by what is awaited
 abbrev pub step_in : List Frame → Mode → TokenKind → Option State
 step_in frames free t = step_free frames t
+step_in frames (heading awaited) t = step_heading frames awaited t
 step_in frames after_endif t = step_after_endif frames t
 step_in frames (named name) t = step_named frames name t
 step_in frames (factor_next left) t = step_factor frames left t

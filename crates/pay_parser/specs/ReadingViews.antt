@@ -2,7 +2,7 @@
 use Rattle.std.specs.Prelude.{◌≡◌, ◌∷◌, [], List, length, map, reverse, Option, Some, None, IsSome, Result, Ok, Err, Vec}
 use Rattle.std.specs.Option.{option_map}
 use Rattle.std.specs.Global.{Global}
-use Rattle.pay_meaning.specs.Language.{compare, bare, Condition, Body, Script}
+use Rattle.pay_meaning.specs.Language.{compare, bare, Condition, Body, Terms, Script}
 use Rattle.pay_tree.specs.declared.tree.Item.{Item as ItemTree}
 use Rattle.pay_tree.specs.declared.tree.Stmt.{Stmt}
 use Rattle.pay_tree.specs.declared.name.NameFault.{NameFault}
@@ -33,13 +33,17 @@ use Rattle.pay_parser.specs.declared.place.Innermost.{Innermost as InnermostTree
 use Rattle.pay_parser.specs.declared.place.Innermost.TheVariants as innermost_tree
 use Rattle.pay_parser.specs.declared.place.Block.{Block as BlockTree}
 use Rattle.pay_parser.specs.declared.place.Unfinished.{Unfinished as UnfinishedTree}
+use Rattle.pay_parser.specs.declared.place.Heading.{Heading as HeadingTree}
+use Rattle.pay_parser.specs.declared.place.Heading.TheVariants as heading_tree
+use Rattle.pay_parser.specs.declared.place.Terms.{Terms as TermsTree}
 use Rattle.pay_parser.specs.declared.place.Mode.{Mode as ModeTree}
 use Rattle.pay_parser.specs.declared.place.Mode.TheVariants as mode_tree
 use Rattle.pay_parser.specs.declared.place.State.{State as StateTree}
 use Rattle.pay_parser.specs.Reading as reading
 use Rattle.pay_parser.specs.Reading.{Head, assigns, pays, Sum, no_sum, sum_plus, sum_minus, Product, no_product, product_times, product_over}
-use Rattle.pay_parser.specs.Reading.{Before, Logic, a_logic, Opening, of_if, of_bracket, Owner, of_item, of_yes, of_no, Frame, a_script, a_body}
-use Rattle.pay_parser.specs.Reading.{a_statement, a_condition, a_comparison, a_bracket, an_absolute, a_choice, Mode, free, after_endif, named}
+use Rattle.pay_parser.specs.Reading.{Before, Logic, a_logic, Opening, of_if, of_bracket, Owner, of_item, of_schedule, of_yes, of_no, Frame, a_script, a_body}
+use Rattle.pay_parser.specs.Reading.{Heading, from_next, first_next, to_next, last_next, every_next, count_next, unit_next, rule_next, do_next}
+use Rattle.pay_parser.specs.Reading.{a_statement, a_condition, a_comparison, a_bracket, an_absolute, an_extreme, Mode, free, after_endif, named}
 use Rattle.pay_parser.specs.Reading.{factor_next, after, after_condition, bracket_next, call_named, call_opened, State, summed}
 
 abbrev pub head : HeadTree → Head
@@ -75,8 +79,23 @@ tail (tail_tree.Compared op left s term) = compare (comparison op) (number left)
 abbrev pub statements : Vec Stmt Global → Body
 statements so_far = body so_far.items
 
+abbrev pub terms : TermsTree → Terms
+terms t = record { first = t.first; last = t.last; every = t.every; unit = t.unit; rule = t.rule }
+
+abbrev pub heading : HeadingTree → Heading
+heading heading_tree.From = from_next
+heading heading_tree.First = first_next
+heading (heading_tree.To first) = to_next first
+heading (heading_tree.Last first) = last_next first
+heading (heading_tree.Every first last) = every_next first last
+heading (heading_tree.Count first last) = count_next first last
+heading (heading_tree.Unit first last every) = unit_next first last every
+heading (heading_tree.Rule first last every unit) = rule_next first last every unit
+heading (heading_tree.Do t) = do_next (terms t)
+
 abbrev pub owner : OwnerTree → Owner
 owner (owner_tree.Item date) = of_item date
+owner (owner_tree.Schedule t) = of_schedule (terms t)
 owner (owner_tree.Yes c) = of_yes (condition c)
 owner (owner_tree.No c first) = of_no (condition c) (statements first)
 
@@ -87,7 +106,7 @@ frame (frame_tree.Condition o left) = a_condition (opening o) (logic left)
 frame (frame_tree.Comparison op left) = a_comparison (comparison op) (number left)
 frame (frame_tree.Bracket left) = a_bracket (before left)
 frame (frame_tree.Absolute left) = an_absolute (before left)
-frame (frame_tree.Choice op left first) = a_choice (operator op) (before left) (option_map number first)
+frame (frame_tree.Extreme op left first) = an_extreme (operator op) (before left) (option_map number first)
 
 -- the items of a script so far
 abbrev pub items : Vec ItemTree Global → Script
@@ -114,6 +133,7 @@ unfinished open_one = a_statement (head open_one.head) ∷ a_body (owner open_on
 
 abbrev pub mode : ModeTree → Mode
 mode mode_tree.Free = free
+mode (mode_tree.Heading awaited) = reading.heading (heading awaited)
 mode mode_tree.AfterEndif = after_endif
 mode (mode_tree.Named name) = named name
 mode (mode_tree.FactorNext left) = factor_next (before left)

@@ -1,5 +1,5 @@
 -- The limits that are counted on tokens: sizes of numbers and names, open brackets, open ifs, and operators in a stretch.
-use Rattle.std.specs.Prelude.{◌≡◌, ℕ, nat_lt, Bool, true, false, ◌||◌, List, [], ◌∷◌, ◌++◌, length, filter, map, ℤ, pos, ◌-ℤ◌, int_lt, Option, Some}
+use Rattle.std.specs.Prelude.{◌≡◌, ℕ, nat_lt, Bool, true, false, ◌||◌, List, [], ◌∷◌, ◌++◌, length, filter, ℤ, pos, ◌-ℤ◌, int_lt, Option, Some}
 use Rattle.std.specs.Prelude.{None, Result, Ok, Err, if◌then◌else◌}
 use Rattle.pay_fixed.specs.Decimal.{decimal_in}
 use Rattle.pay_fixed.specs.declared.NumberFault.{NumberFault}

@@ -10,7 +10,7 @@ ghost use Rattle.pay_parser.specs.Reading.{Frame as OpenFrame};
 ghost use Rattle.pay_parser.specs.ReadingViews as view;
 ghost use Rattle.pay_parser.specs.ReadingViews.{Gives};
 
-use crate::condition::{condition_of, is_no_logic, no_logic, with_and, with_not, with_or};
+use crate::logic::{condition_of, is_no_logic, no_logic, with_and, with_not, with_or};
 use crate::number::{arrived, summed};
 use crate::parse_fault::StepFault;
 use crate::place::{

@@ -11,13 +11,14 @@ ghost use Rattle.pay_parser.specs.Reading as reading;
 ghost use Rattle.pay_parser.specs.ReadingViews as view;
 ghost use Rattle.pay_parser.specs.ReadingViews.{Gives};
 
-use crate::condition::no_logic;
+use crate::logic::no_logic;
 use crate::number::{headed, summed};
 use crate::parse_fault::StepFault;
 use crate::place::{
     Frame, Head, Innermost, Mode, Opening, Owner, Stack, State, Sum, Unfinished, begun_body,
     block_of, innermost_of, opened, pushed, unfinished_of,
 };
+use crate::schedules::{begun_schedule, ended_schedule};
 use crate::statements::{added, choice, dated, name_of};
 use pay_dates::Day;
 use pay_lexer::Letters;
@@ -91,6 +92,34 @@ fn closed_after(
     }
 }
 
+/// The state after `end`, which ends the statement whose number a term ends and a schedule.
+fn scheduled_after(
+    alloc: Global,
+    statement: Unfinished,
+    sum: Sum,
+    term: Expr,
+) -> Result<State, StepFault>
+    ensures { Gives view.state result (option_and_then reading.step_end
+        (reading.ended (view.unfinished statement) (reading.summed (view.sum sum) (tree_of.number term)))) }
+{
+    let Unfinished {
+        outer,
+        owner,
+        body,
+        head,
+    } = statement;
+    match owner {
+        Owner::Schedule(terms) => match innermost_of(outer) {
+            Innermost::Script(items) => {
+                let body = with_number(alloc, body, head, sum, term)?;
+                ended_schedule(alloc, items, terms, body)
+            }
+            Innermost::Frame(_, _) => Err(StepFault::NotScript),
+        },
+        _ => Err(StepFault::NotScript),
+    }
+}
+
 /// The state after `else`, which ends the statement whose number a term ends and the first branch of an `if`.
 fn otherwise_after(
     alloc: Global,
@@ -133,7 +162,7 @@ fn chosen_after(
         head,
     } = statement;
     match owner {
-        Owner::Item(_) => Err(StepFault::NotScript),
+        Owner::Item(_) | Owner::Schedule(_) => Err(StepFault::NotScript),
         Owner::Yes(cond) => match block_of(outer) {
             None => Err(StepFault::NotScript),
             Some(within) => {
@@ -210,6 +239,44 @@ pub fn step_next_item(
             let items = closed_after(alloc, statement, sum, term)?;
             dated(alloc, date, items)
         }
+    }
+}
+
+/// The state after `schedule`, which ends an item and its last statement with the number that a term ends.
+///
+/// # Errors
+///
+/// `NotScript` where it can't stand there, and `NoMemory` where there was no memory for what ends.
+pub fn step_next_schedule(
+    alloc: Global,
+    stack: Stack,
+    sum: Sum,
+    term: Expr,
+) -> Result<State, StepFault>
+    ensures { Gives view.state result (reading.step_ended (view.frames stack)
+        (reading.summed (view.sum sum) (tree_of.number term)) (TokenKind.Key Key.Schedule)) }
+{
+    match unfinished_of(stack) {
+        None => Err(StepFault::NotScript),
+        Some(statement) => {
+            let items = closed_after(alloc, statement, sum, term)?;
+            Ok(begun_schedule(alloc, items))
+        }
+    }
+}
+
+/// The state after `end`, which ends a schedule and its last statement with the number that a term ends.
+///
+/// # Errors
+///
+/// `NotScript` where it can't stand there, and `NoMemory` where there was no memory for what ends.
+pub fn step_next_end(alloc: Global, stack: Stack, sum: Sum, term: Expr) -> Result<State, StepFault>
+    ensures { Gives view.state result (reading.step_ended (view.frames stack)
+        (reading.summed (view.sum sum) (tree_of.number term)) (TokenKind.Key Key.End)) }
+{
+    match unfinished_of(stack) {
+        None => Err(StepFault::NotScript),
+        Some(statement) => scheduled_after(alloc, statement, sum, term),
     }
 }
 

@@ -12,8 +12,8 @@ use crate::conditions::{
     step_compared, step_comparison, step_group, step_not, step_number_group, step_open,
 };
 use crate::endings::{
-    step_next_else, step_next_endif, step_next_if, step_next_item, step_next_statement,
-    step_semicolon,
+    step_next_else, step_next_end, step_next_endif, step_next_if, step_next_item,
+    step_next_schedule, step_next_statement, step_semicolon,
 };
 use crate::number::{arrived, binary, summed, unary, with_argument};
 use crate::parse_fault::StepFault;
@@ -91,8 +91,8 @@ fn step_key(alloc: Global, stack: Stack, left: Before, key: Key) -> Result<State
     ensures { Gives view.state result (reading.step_factor (view.frames stack) (view.before left) (TokenKind.Key key)) }
 {
     match key {
-        Key::Min => Ok(bracket_next(stack, Frame::Choice(Binary::Min, left, None))),
-        Key::Max => Ok(bracket_next(stack, Frame::Choice(Binary::Max, left, None))),
+        Key::Min => Ok(bracket_next(stack, Frame::Extreme(Binary::Min, left, None))),
+        Key::Max => Ok(bracket_next(stack, Frame::Extreme(Binary::Max, left, None))),
         Key::Abs => Ok(bracket_next(stack, Frame::Absolute(left))),
         Key::Spot => Ok(call_named(stack, Expr::Spot, left)),
         Key::Period => Ok(call_named(stack, Expr::Period, left)),
@@ -205,7 +205,7 @@ fn step_close(alloc: Global, stack: Stack, sum: Sum, term: Expr) -> Result<State
             let absolute = unary(alloc, Unary::Abs, number)?;
             arrived(alloc, outer, left, absolute)
         }
-        Frame::Choice(operator, left, first) => match first {
+        Frame::Extreme(operator, left, first) => match first {
             Some(first) => {
                 let number = summed(alloc, sum, term)?;
                 let chosen = binary(alloc, operator, first, number)?;
@@ -231,10 +231,10 @@ fn step_comma(alloc: Global, stack: Stack, sum: Sum, term: Expr) -> Result<State
         return Err(StepFault::NotScript);
     };
     match frame {
-        Frame::Choice(operator, left, first) => {
+        Frame::Extreme(operator, left, first) => {
             let number = summed(alloc, sum, term)?;
             let chosen = with_argument(alloc, operator, first, number)?;
-            opened(alloc, outer, Frame::Choice(operator, left, Some(chosen)))
+            opened(alloc, outer, Frame::Extreme(operator, left, Some(chosen)))
         }
         _ => Err(StepFault::NotScript),
     }
@@ -284,7 +284,7 @@ fn step_sign(
     }
 }
 
-/// The state after a keyword that stands after a factor: the next statement begins, or a condition or a branch goes on or ends.
+/// The state after a keyword that stands after a factor: the next item or statement begins, a condition goes on or ends, or a branch or a schedule ends.
 fn step_after_key(
     alloc: Global,
     stack: Stack,
@@ -295,12 +295,12 @@ fn step_after_key(
     ensures { Gives view.state result (reading.step_after (view.frames stack) (view.sum sum) (tree_of.number term) (TokenKind.Key key)) }
 {
     match key {
+        Key::Schedule => step_next_schedule(alloc, stack, sum, term),
+        Key::End => step_next_end(alloc, stack, sum, term),
         Key::If => step_next_if(alloc, stack, sum, term),
         Key::Else => step_next_else(alloc, stack, sum, term),
         Key::Endif => step_next_endif(alloc, stack, sum, term),
-        Key::Then => step_compared(alloc, stack, sum, term, Key::Then),
-        Key::And => step_compared(alloc, stack, sum, term, Key::And),
-        Key::Or => step_compared(alloc, stack, sum, term, Key::Or),
+        Key::Then | Key::And | Key::Or => step_compared(alloc, stack, sum, term, key),
         _ => Err(StepFault::NotScript),
     }
 }

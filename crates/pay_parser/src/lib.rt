@@ -13,23 +13,27 @@
 //! condition `not` is grouped before `and`, and `and` before `or`, and both of these to the left. A bracket that stands where a comparison may
 //! begin can be that of a condition or that of a number: what stands in it shows which, so no token is read twice.
 //!
+//! A schedule, as `schedule from @2024-01-31 to @2024-07-31 every 1 m following do a pays 1 end`, is an item beside those on one date. Its terms are
+//! read word by word: the count of its step is a number token without a point, and its unit is one of the names `d`, `w`, `m` and `y`, which stand
+//! for variables and legs everywhere else. Its statements are read as those of any item, up to `end`.
+//!
 //! What tokens spell is said by the relation of `specs/Grammar.antt`, over all ways to cut them. The code takes one token at a time and each
 //! token once, as the reading of `specs/Reading.antt` does: what is open stands on a stack of frames, and a mode says what is awaited. That the
 //! reading finds what the relation says is the law of [`grammar_laws`]. No function is a recursion over the grammar, and the limits of
 //! `specs/TokenLimits.antt`, which bound how deep a tree can be, are asked before any part of a tree is made.
 #![tactic(auto)]
 
-pub mod canonical_law;
-mod condition;
 mod conditions;
 mod endings;
 mod factors;
 pub mod grammar_laws;
 pub mod limit_laws;
+mod logic;
 mod number;
 mod parse_fault;
 mod parser;
 mod place;
+mod schedules;
 mod statements;
 #[cfg(test)]
 mod tests;

@@ -15,6 +15,7 @@ use crate::endings::finish_after;
 use crate::factors::{step_after, step_bracket, step_call_named, step_call_opened, step_factor};
 use crate::parse_fault::{ParseFault, StepFault};
 use crate::place::{Mode, State, Tail, start};
+use crate::schedules::step_heading;
 use crate::statements::{closed, step_after_endif, step_free, step_named};
 use crate::token_limits::{first_too_deep, first_too_large};
 use pay_lexer::{Token, TokenKind};
@@ -28,6 +29,7 @@ fn step(alloc: Global, state: State, token: &TokenKind) -> Result<State, StepFau
     let State { stack, mode } = state;
     match mode {
         Mode::Free => step_free(alloc, stack, token),
+        Mode::Heading(awaited) => step_heading(alloc, stack, awaited, token),
         Mode::AfterEndif => step_after_endif(alloc, stack, token),
         Mode::Named(name) => step_named(alloc, stack, name, token),
         Mode::FactorNext(left) => step_factor(alloc, stack, left, token),
@@ -70,6 +72,9 @@ fn read_items(alloc: Global, tokens: &[Token]) -> Result<Vec<Item>, StepFault>
 }
 
 /// The script that the tokens of a text spell, read from the front to the end, each token once.
+///
+/// The terms of a schedule are kept as they are written: whether its first date lies before its last, or its step is one that can be taken, isn't
+/// asked here.
 ///
 /// # Errors
 ///

@@ -7,7 +7,7 @@ ghost use Rattle.pay_parser.specs.ReadingViews as view;
 ghost use Rattle.pay_parser.specs.ReadingViews.{Gives};
 
 use crate::parse_fault::StepFault;
-use pay_dates::Day;
+use pay_dates::{Day, Rule, Unit};
 use pay_tree::{Binary, Compare, Cond, Expr, Item, Name, Stmt};
 use std::alloc::Global;
 
@@ -96,11 +96,51 @@ pub enum Tail {
     Compared(Compare, Expr, Sum, Expr),
 }
 
+/// The terms of a schedule.
+#[derive(Clone, Copy)]
+pub struct Terms {
+    /// The first date.
+    pub first: Day,
+    /// The last date.
+    pub last: Day,
+    /// The step: how many units lie between two dates.
+    pub every: u64,
+    /// The unit of the step.
+    pub unit: Unit,
+    /// Where a date on a weekend moves.
+    pub rule: Rule,
+}
+
+/// What is awaited in the terms of a schedule, after what is read of them.
+#[derive(Clone, Copy)]
+pub enum Heading {
+    /// `from`.
+    From,
+    /// The first date.
+    First,
+    /// `to`, after the first date.
+    To(Day),
+    /// The last date, after the first.
+    Last(Day),
+    /// `every`, after the two dates.
+    Every(Day, Day),
+    /// The count of units in a step, after the two dates.
+    Count(Day, Day),
+    /// The unit, after the dates and the count.
+    Unit(Day, Day, u64),
+    /// A rule or `do`, after the dates, the count and the unit.
+    Rule(Day, Day, u64, Unit),
+    /// `do`.
+    Do(Terms),
+}
+
 /// What statements belong to.
 #[derive(Drop)]
 pub enum Owner {
     /// An item on this date.
     Item(Day),
+    /// A schedule of these terms.
+    Schedule(Terms),
     /// The first branch of an `if` with this condition.
     Yes(Cond),
     /// The second branch of an `if` with this condition and this first branch.
@@ -123,7 +163,7 @@ pub enum Frame {
     /// The bracket of `abs`.
     Absolute(Before),
     /// The bracket of `min` or `max`, with the number that its arguments so far give.
-    Choice(Binary, Before, Option<Expr>),
+    Extreme(Binary, Before, Option<Expr>),
 }
 
 /// What is open: a script, and the frames in it.
@@ -171,8 +211,10 @@ pub struct Unfinished {
 /// What is awaited.
 #[derive(Drop)]
 pub enum Mode {
-    /// A statement or an item, or the end of a branch.
+    /// A statement or an item, or the end of a branch or of a schedule.
     Free,
+    /// A word, a date or a count in the terms of a schedule.
+    Heading(Heading),
     /// The same or a `;`, after `endif`.
     AfterEndif,
     /// What follows the name that begins a statement.

@@ -1,4 +1,4 @@
-//! Where a statement, an item or the end of a branch is awaited, and what follows the name of a statement.
+//! Where a statement, an item, or the end of a branch or of a schedule is awaited, and what follows the name of a statement.
 
 ghost use Rattle.std.specs.Prelude.{◌≡◌, Some, ◌∷◌, IfOk, IsErrOf};
 ghost use Rattle.pay_meaning.specs.Language.{choose};
@@ -8,12 +8,13 @@ ghost use Rattle.pay_parser.specs.Reading as reading;
 ghost use Rattle.pay_parser.specs.ReadingViews as view;
 ghost use Rattle.pay_parser.specs.ReadingViews.{Gives};
 
-use crate::condition::no_logic;
+use crate::logic::no_logic;
 use crate::parse_fault::StepFault;
 use crate::place::{
     Block, Frame, Head, Innermost, Mode, Opening, Owner, Stack, State, begun_body, between_items,
     block_of, innermost_of, opened, pushed,
 };
+use crate::schedules::{step_end, step_schedule};
 use pay_dates::Day;
 use pay_lexer::{Key, Letters, Sign, TokenKind};
 use pay_tree::{Cond, Item, Name, Stmt};
@@ -122,7 +123,7 @@ fn chosen(alloc: Global, stack: Stack) -> Result<Stack, StepFault>
     };
     match frame {
         Frame::Body(owner, body) => match owner {
-            Owner::Item(_) => Err(StepFault::NotScript),
+            Owner::Item(_) | Owner::Schedule(_) => Err(StepFault::NotScript),
             Owner::Yes(cond) => with_statement(outer, choice(cond, body, Vec::new(alloc))),
             Owner::No(cond, yes) => with_statement(outer, choice(cond, yes, body)),
         },
@@ -193,7 +194,8 @@ fn step_endif(alloc: Global, stack: Stack) -> Result<State, StepFault>
     })
 }
 
-/// The state after a token between statements: a date begins an item, a name or `if` a statement, and `else` and `endif` end a branch.
+/// The state after a token between statements: a date or `schedule` begins an item, a name or `if` a statement, `else` and `endif` end a branch, and
+/// `end` a schedule.
 ///
 /// # Errors
 ///
@@ -207,6 +209,8 @@ pub fn step_free(alloc: Global, stack: Stack, token: &TokenKind) -> Result<State
             dated(alloc, *date, items)
         }
         TokenKind::Word(letters) => step_word(alloc, stack, letters),
+        TokenKind::Key(Key::Schedule) => step_schedule(alloc, stack),
+        TokenKind::Key(Key::End) => step_end(alloc, stack),
         TokenKind::Key(Key::If) => step_if(alloc, stack),
         TokenKind::Key(Key::Else) => step_else(alloc, stack),
         TokenKind::Key(Key::Endif) => step_endif(alloc, stack),

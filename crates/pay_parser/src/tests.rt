@@ -3,6 +3,7 @@
 ghost use Rattle.std.specs.Prelude.{◌≤◌, ◌^◌, length, IfOk};
 
 use crate::{ParseFault, parse};
+use pay_dates::{Day, Rule, Unit};
 use pay_lexer::{Token, lex};
 use pay_tree::{Binary, Expr, Item, Stmt, Unary, print_script};
 use std::alloc::{AllocError, Global};
@@ -140,7 +141,7 @@ const CONDITIONS: [(&[u8], &[u8]); 14] = [
     ),
 ];
 
-// Conditions that none are.
+// Texts that are no conditions.
 const NO_CONDITIONS: [&[u8]; 14] = [
     b"",
     b"1",
@@ -158,8 +159,12 @@ const NO_CONDITIONS: [&[u8]; 14] = [
     b"min(1 < 2, 3) < 4",
 ];
 
-// Statements, and their canonical text without the front of its lines.
-const STATEMENTS: [(&[u8], &[u8]); 6] = [
+// Statements as they may be written, and their canonical text below the line of the date.
+const STATEMENTS: [(&[u8], &[u8]); 7] = [
+    (
+        b"d = 1 w pays d; m = y y = m",
+        b"  d = 1;\n  w pays d;\n  m = y;\n  y = m;\n",
+    ),
     (b"if a < 1 then endif", b"  if a < 1 then\n  endif\n"),
     (
         b"if a < 1 then b = 1 c = 2; else a pays 1; endif;",
@@ -183,8 +188,8 @@ const STATEMENTS: [(&[u8], &[u8]); 6] = [
     ),
 ];
 
-// Statements that none are.
-const NO_STATEMENTS: [&[u8]; 13] = [
+// Texts that are no statements.
+const NO_STATEMENTS: [&[u8]; 16] = [
     b"a pays 1 < 2",
     b"a = (1 < 2)",
     b"a = not 1",
@@ -198,6 +203,59 @@ const NO_STATEMENTS: [&[u8]; 13] = [
     b"if a < 1 then endif;;",
     b"if a < 1 then @2024-06-29 endif",
     b"if a < 1 then x = 1 @2024-06-29",
+    b"if a < 1 then schedule from @2024-01-31 to @2024-07-31 every 1 m do end endif",
+    b"end",
+    b"x = 1 end",
+];
+
+// Steps and rules of schedules, as they may be written, and what they are.
+const STEPS: [(&[u8], u64, Unit, Rule); 4] = [
+    (b"0 d", 0, Unit::Days, Rule::Stay),
+    (b"2 w following", 2, Unit::Weeks, Rule::Following),
+    (b"012 M preceding", 12, Unit::Months, Rule::Preceding),
+    (b"1000 y Modified", 1_000, Unit::Years, Rule::Modified),
+];
+
+// Texts of scripts before and after a schedule, and how many items they have with it.
+const AROUND_SCHEDULES: [(&[u8], &[u8], usize); 5] = [
+    (b"", b" do end", 1),
+    (b"", b" do d = 1 w pays d; end", 1),
+    (
+        b"@2024-06-28 a = 1 ",
+        b" do if d < 1 then endif end @2024-06-28",
+        3,
+    ),
+    (
+        b"@2024-06-28 if a < 1 then endif ",
+        b" do if d < 1 then endif; end",
+        2,
+    ),
+    (
+        b"@2024-06-28 a = 1; ",
+        b" do end schedule from @2024-01-31 to @2024-07-31 every 1 y do end",
+        3,
+    ),
+];
+
+// What follows the dates of a schedule that is none.
+const NO_SCHEDULES: [&[u8]; 17] = [
+    b"1 m do end",
+    b"every m do end",
+    b"every 1.0 m do end",
+    b"every x m do end",
+    b"every -1 m do end",
+    b"every 1 do end",
+    b"every 1 q do end",
+    b"every 1 mm do end",
+    b"every 1 m following modified do end",
+    b"every 1 m a pays 1 end",
+    b"every 1 m do a pays 1",
+    b"every 1 m do a pays 1 @2024-06-28",
+    b"every 1 m do a pays 1 @2024-06-28 end",
+    b"every 1 m do schedule from @2024-01-31 to @2024-07-31 every 1 m do end end",
+    b"every 1 m do if a < 1 then end endif",
+    b"every 1 m do end end",
+    b"every 1 m do end;",
 ];
 
 fn text_of(alloc: Global, (front, piece, times, end): Text) -> Result<Vec<u8>, AllocError> {
@@ -394,6 +452,49 @@ fn ifs_nest_as_deep_as_the_limit(rt: HostRuntime) -> Result<(), Fail> {
             Ok(_) => assert!(rt; fault.is_none()),
             Err(found) => assert_eq!(rt; Some(found), fault),
         }
+    }
+    Ok(())
+}
+
+#[test]
+fn each_schedule_has_its_terms(rt: HostRuntime) -> Result<(), Fail> {
+    let alloc = rt.alloc();
+    let from = Day::new(2024, 1, 31).ok_or("a day")?;
+    let to = Day::new(2024, 7, 31).ok_or("a day")?;
+    let front = b"schedule from @2024-01-31 to @2024-07-31 every ".as_slice();
+    let end = b" do a pays 1 end".as_slice();
+    for (step, count, step_unit, step_rule) in STEPS {
+        let script = parse(alloc, &tokens_of(alloc, (front, step, 1, end))?)?;
+        let [
+            Item::Schedule {
+                first,
+                last,
+                every,
+                unit,
+                rule,
+                body,
+            },
+        ] = script.items.as_slice()
+        else {
+            return Err(Fail::new("one schedule"));
+        };
+        assert_eq!(rt; (*first, *last, body.len()), (from, to, 1));
+        assert_eq!(rt; (*every, *unit, *rule), (count, step_unit, step_rule));
+    }
+    Ok(())
+}
+
+#[test]
+fn a_schedule_is_an_item(rt: HostRuntime) -> Result<(), Fail> {
+    let alloc = rt.alloc();
+    let terms = b"schedule from @2024-01-31 to @2024-07-31 every 1 m".as_slice();
+    for (front, end, items) in AROUND_SCHEDULES {
+        let script = parse(alloc, &tokens_of(alloc, (front, terms, 1, end))?)?;
+        assert_eq!(rt; script.items.len(), items);
+    }
+    let front = b"schedule from @2024-01-31 to @2024-07-31 ".as_slice();
+    for rest in NO_SCHEDULES {
+        assert!(rt; is_no_script(alloc, (front, rest, 1, b""))?);
     }
     Ok(())
 }

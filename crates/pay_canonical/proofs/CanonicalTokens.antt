@@ -1,26 +1,31 @@
 -- The tokens of the canonical text of a script, and that they spell it.
-use Rattle.std.proofs.Common.{ℕ, ℤ, pos, ◌≤ℤ◌, List, [], ◌∷◌, ◌++◌, append-nil, append_assoc}
+use Rattle.std.proofs.Common.{◌≡◌, ℕ, ◌*◌, ◌/◌, ◌%◌, ◌==◌, false, not, IsTrue, ℤ, pos, ◌≤ℤ◌, int_lt, List, [], ◌∷◌, ◌++◌, append-nil, append_assoc}
+use Rattle.std.proofs.Common.{refl, arith}
+use Rattle.std.specs.Fmt.{decimal}
+use Rattle.std.specs.List.{list_all}
+use Rattle.std.proofs.lemmas.Bool.{and_from}
+use Rattle.std.proofs.lemmas.Bool.Decides.{nat_tests}
 use Rattle.pay_dates.specs.Days.{IsDay}
 use Rattle.pay_fixed.specs.Round.{IsRaw}
-use Rattle.pay_fixed.specs.Grammar.{SpellsRaw}
+use Rattle.pay_fixed.specs.Grammar.{AreDigits, SpellsRaw}
 use Rattle.pay_fixed.specs.Decimal.{decimal_text}
 use Rattle.pay_fixed.proofs.AsSpelled.{raw-spelled}
-use Rattle.pay_fixed.proofs.Text.{reads_back}
+use Rattle.pay_fixed.proofs.Text.{text-spells, reads_back}
 use Rattle.pay_lexer.specs.declared.token.Key.TheVariants as key
 use Rattle.pay_lexer.specs.declared.token.Sign.TheVariants as sign
 use Rattle.pay_lexer.specs.declared.token.TokenKind.{TokenKind}
 use Rattle.pay_lexer.specs.declared.token.TokenKind.TheVariants as token
 use Rattle.pay_meaning.specs.Language.{Operator, add, subtract, multiply, divide, least, greatest, Number, literal, variable, spot, period, days}
 use Rattle.pay_meaning.specs.Language.{negative, absolute, binary, bare, Condition, compare, negation, conjunction, disjunction, settled, sure, Statement}
-use Rattle.pay_meaning.specs.Language.{assign, pay, choose, group, Body, done, next, Item, plain, Script}
+use Rattle.pay_meaning.specs.Language.{assign, pay, choose, group, Body, done, next, Item, plain, scheduled, Script}
 use Rattle.pay_meaning.specs.Words.{IsName}
 use Rattle.pay_tree.specs.Text.{unless_empty}
 use Rattle.pay_parser.specs.Grammar.{sign_of, bracketed, SpellsNumber, one_term, plus, minus, one_factor, times, over, SpellsFactor, one_atom, minus_sign}
 use Rattle.pay_parser.specs.Grammar.{SpellsAtom, of_literal, of_variable, in_brackets, of_least, of_greatest, of_absolute, of_spot, of_period}
 use Rattle.pay_parser.specs.Grammar.{of_days, two, SpellsCondition, one_conjunction, or_else, one_negation, and_also, SpellsNegation, not_sign}
 use Rattle.pay_parser.specs.Grammar.{two_numbers, condition_in_brackets, assignment, payment, SpellsStatement, simple_ended, choice, SpellsChoice}
-use Rattle.pay_parser.specs.Grammar.{without_else, with_else, SpellsBody, no_statement, one_more, SpellsItem, dated, SpellsScript, no_item}
-use Rattle.pay_parser.specs.Grammar.{one_more_item}
+use Rattle.pay_parser.specs.Grammar.{without_else, with_else, SpellsBody, no_statement, one_more, SpellsCount, schedule_tokens, SpellsItem, dated, rolled}
+use Rattle.pay_parser.specs.Grammar.{SpellsScript, no_item, one_more_item}
 
 -- what texts can write: each literal within the limit and not below zero, and each name a name
 abbrev pub IsWritten : Number → Type 0
@@ -54,8 +59,10 @@ abbrev mutual
   IsWrittenBody done = Unit {0}
   IsWrittenBody (next statement rest) = IsWrittenStatement statement × IsWrittenBody rest
 
+-- the dates of an item are days, and the count of a schedule is a number within the limit
 abbrev pub IsWrittenItem : Item → Type 0
 IsWrittenItem (plain date body) = IsDay date × IsWrittenBody body
+IsWrittenItem (scheduled terms body) = IsDay terms.first × IsDay terms.last × IsRaw (pos (terms.every * 10_000)) × IsWrittenBody body
 
 abbrev pub IsWrittenScript : Script → Type 0
 IsWrittenScript [] = Unit {0}
@@ -113,6 +120,7 @@ abbrev mutual
 
 abbrev pub item_tokens : Item → List TokenKind
 item_tokens (plain date body) = token.Date date ∷ body_tokens body
+item_tokens (scheduled terms body) = schedule_tokens terms (decimal terms.every) ++ (body_tokens body ++ token.Key key.End ∷ [])
 
 abbrev pub script_tokens : Script → List TokenKind
 script_tokens [] = []
@@ -192,8 +200,33 @@ mutual
   body_spelled done h = no_statement
   body_spelled (next statement rest) h = first_statement _ _ _ _ (statement_spelled statement h.0) (body_spelled rest h.1)
 
+-- the text of a number without a fraction is its digits
+pub count_text : (n : ℕ) → decimal_text (pos (n * 10_000)) ≡ decimal n
+unfolding decimal_text
+count_text n =
+    let whole : n * 10_000 / 10_000 ≡ n = omega arith in
+    let rest : n * 10_000 % 10_000 ≡ 0 = omega arith in
+    let plain : int_lt (pos (n * 10_000)) (pos 0) ≡ false = grind (arith, nat_tests) in
+    rw (plain, whole, rest) (append-nil (decimal n))
+
+no_digit_is_point : (ds : List ℕ) → AreDigits ds → IsTrue (list_all (λ byte. not (byte == 46)) ds)
+no_digit_is_point [] h = refl
+no_digit_is_point (d ∷ ds) h =
+    and_from (not (d == 46)) (list_all (λ byte. not (byte == 46)) ds) (grind (arith, nat_tests, h.0)) (no_digit_is_point ds h.1)
+
+-- the digits of a count spell it
+count_spelled : (n : ℕ) → IsRaw (pos (n * 10_000)) → SpellsCount (decimal n) n
+count_spelled n h =
+    let whole : n * 10_000 / 10_000 ≡ n = omega arith in
+    let digits : AreDigits (decimal n) = rw whole at (text-spells (pos (n * 10_000)) h).spells_whole.1 in
+    record {
+      no_point = no_digit_is_point (decimal n) digits;
+      value = rw (count_text n) at (literal_spelled (pos (n * 10_000)) h);
+    }
+
 item_spelled : (i : Item) → IsWrittenItem i → SpellsItem (item_tokens i) i
 item_spelled (plain date body) h = dated date (body_tokens body) body (body_spelled body h.1)
+item_spelled (scheduled terms body) h = rolled terms (decimal terms.every) (body_tokens body) body (count_spelled terms.every h.2) (body_spelled body h.3)
 
 -- one item more in front
 first_item : (us : List TokenKind) (i : Item) (ts : List TokenKind) (items : Script) → SpellsItem us i → SpellsScript ts items

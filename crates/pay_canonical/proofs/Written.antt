@@ -1,4 +1,5 @@
--- What tokens of a text spell can be written: its literals are within the limit and not below zero, its names are names and its dates days.
+-- What tokens of a text spell can be written: its literals are within the limit and not below zero, its names are names and its dates days,
+-- and the counts of its schedules are within the limit.
 use Rattle.std.proofs.Common.{◌≡◌, ℕ, ℤ, pos, ◌≤ℤ◌, Bool, true, false, List, [], ◌∷◌, ◌++◌, inl, inr, refl, sym, ap, ◌∙◌, arith}
 use Rattle.std.proofs.lemmas.Bool.{false≢true}
 use Rattle.std.proofs.lemmas.Int.{ints}
@@ -17,8 +18,8 @@ use Rattle.pay_parser.specs.Grammar.{SpellsAtom, of_literal, of_variable, in_bra
 use Rattle.pay_parser.specs.Grammar.{of_days, SpellsArguments, two, one_more_number, SpellsCondition, one_conjunction, or_else, SpellsConjunction}
 use Rattle.pay_parser.specs.Grammar.{one_negation, and_also, SpellsNegation, not_sign, two_numbers, condition_in_brackets, SpellsSimple, assignment}
 use Rattle.pay_parser.specs.Grammar.{payment, SpellsStatement, simple, simple_ended, choice, choice_ended, SpellsChoice, without_else, with_else}
-use Rattle.pay_parser.specs.Grammar.{SpellsBody, no_statement, one_more, SpellsItem, dated, SpellsScript, no_item, one_more_item}
-use Rattle.pay_parser.proofs.CanonicalTokens.{IsWritten, IsWrittenCondition, IsWrittenStatement, IsWrittenBody, IsWrittenItem, IsWrittenScript}
+use Rattle.pay_parser.specs.Grammar.{SpellsBody, no_statement, one_more, schedule_tokens, SpellsItem, dated, rolled, SpellsScript, no_item, one_more_item}
+use Rattle.pay_canonical.proofs.CanonicalTokens.{IsWritten, IsWrittenCondition, IsWrittenStatement, IsWrittenBody, IsWrittenItem, IsWrittenScript}
 
 -- the digits of a number begin with a digit
 first_digit : (digits : List ℕ) → IsNumber digits → (d : ℕ) × (ds : List ℕ) × (digits ≡ d ∷ ds) × (is_digit d ≡ true)
@@ -124,6 +125,9 @@ mutual
 
 item_written : (ts : List TokenKind) (i : Item) → SpellsItem ts i → HaveForms ts → IsWrittenItem i
 item_written _ _ (dated date ts b k) h = (h.0, body_written ts b k h.1)
+item_written _ _ (rolled terms digits ts b k l) h =
+    let statements = forms_front ts _ (forms_back (schedule_tokens terms digits) _ h) in
+    (h.1.1.0, h.1.1.1.1.0, k.value.within, body_written ts b l statements)
 
 one_more_item_written : (items : Script) (i : Item) → IsWrittenScript items → IsWrittenItem i → IsWrittenScript (items ++ i ∷ [])
 one_more_item_written [] i h k = (k, tt)

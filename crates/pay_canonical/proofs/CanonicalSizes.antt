@@ -1,7 +1,12 @@
 -- No canonical token is too large.
-use Rattle.std.proofs.Common.{◌≡◌, ℕ, ◌≤◌, nat_lt, nat_le, Bool, false, ◌&&◌, not, List, [], ◌∷◌, ◌++◌, length, ℤ, None, refl, arith, length-append}
+use Rattle.std.proofs.Common.{◌≡◌, ℕ, ◌*◌, ◌≤◌, nat_lt, nat_le, Bool, false, ◌&&◌, not, List, [], ◌∷◌, ◌++◌, length, ℤ, pos, None, refl, arith, length-append}
 use Rattle.std.proofs.lemmas.Bool.{and_parts, leb-true}
 use Rattle.std.proofs.lemmas.Bool.Decides.{nat_tests}
+use Rattle.std.specs.Fmt.{decimal}
+use Rattle.pay_dates.specs.declared.roll.Rule.{Rule}
+use Rattle.pay_dates.specs.declared.roll.Rule.TheVariants.{Stay, Following, Preceding, Modified}
+use Rattle.pay_dates.specs.declared.roll.Unit.{Unit as StepUnit}
+use Rattle.pay_dates.specs.declared.roll.Unit.TheVariants.{Days, Weeks, Months, Years}
 use Rattle.pay_fixed.specs.Round.{IsRaw}
 use Rattle.pay_fixed.specs.Grammar.{SpellsSign, no_sign, SpellsFraction, no_fraction, point}
 use Rattle.pay_fixed.specs.Grammar.SpellsSign.{plus as plus_before, minus as minus_before}
@@ -13,12 +18,14 @@ use Rattle.pay_lexer.specs.declared.token.TokenKind.{TokenKind}
 use Rattle.pay_lexer.specs.declared.token.TokenKind.TheVariants as token
 use Rattle.pay_meaning.specs.Language.{Operator, add, subtract, multiply, divide, least, greatest, Number, literal, variable, spot, period, days}
 use Rattle.pay_meaning.specs.Language.{negative, absolute, binary, Condition, compare, negation, conjunction, disjunction, settled, sure, Statement}
-use Rattle.pay_meaning.specs.Language.{assign, pay, choose, group, Body, done, next, Item, plain, Script}
-use Rattle.pay_meaning.specs.Words.{is_lower_word, is_keyword, is_name, IsName}
+use Rattle.pay_meaning.specs.Language.{assign, pay, choose, group, Body, done, next, Terms, Item, plain, scheduled, Script}
+use Rattle.pay_meaning.specs.Words.{is_lower_word, is_keyword, is_name, IsName, unit_word}
 use Rattle.pay_tree.specs.Text.{unless_empty}
+use Rattle.pay_parser.specs.Grammar.{rule_tokens, schedule_tokens}
 use Rattle.pay_parser.specs.TokenLimits.{kinds, is_too_large, first_too_large}
-use Rattle.pay_parser.proofs.CanonicalTokens.{IsWritten, IsWrittenCondition, IsWrittenStatement, IsWrittenBody, IsWrittenItem, IsWrittenScript}
-use Rattle.pay_parser.proofs.CanonicalTokens.{binary_tokens, number_tokens, condition_tokens, statement_tokens, body_tokens, item_tokens, script_tokens}
+use Rattle.pay_canonical.proofs.CanonicalTokens.{IsWritten, IsWrittenCondition, IsWrittenStatement, IsWrittenBody, IsWrittenItem, IsWrittenScript}
+use Rattle.pay_canonical.proofs.CanonicalTokens.{binary_tokens, number_tokens, condition_tokens, statement_tokens, body_tokens, item_tokens, script_tokens}
+use Rattle.pay_canonical.proofs.CanonicalTokens.{count_text}
 
 -- none of these tokens is too large
 abbrev NoneTooLarge : List TokenKind → Type 0
@@ -110,8 +117,30 @@ mutual
   body_small done h = tt
   body_small (next statement rest) h = none_in_row _ _ (statement_small statement h.0) (body_small rest h.1)
 
+count_small : (n : ℕ) → IsRaw (pos (n * 10_000)) → is_too_large (token.Number (decimal n)) ≡ false
+count_small n h = rw (count_text n) at (literal_small (pos (n * 10_000)) h)
+
+unit_small : (unit : StepUnit) → is_too_large (token.Word (unit_word unit)) ≡ false
+unit_small Days = refl
+unit_small Weeks = refl
+unit_small Months = refl
+unit_small Years = refl
+
+rule_small : (rule : Rule) → NoneTooLarge (rule_tokens rule ++ token.Key key.Do ∷ [])
+rule_small Stay = (refl, tt)
+rule_small Following = (refl, (refl, tt))
+rule_small Preceding = (refl, (refl, tt))
+rule_small Modified = (refl, (refl, tt))
+
+header_small : (terms : Terms) → IsRaw (pos (terms.every * 10_000)) → NoneTooLarge (schedule_tokens terms (decimal terms.every))
+header_small terms h =
+    (refl, (refl, (refl, (refl, (refl, (refl, (count_small terms.every h, (unit_small terms.unit, rule_small terms.rule))))))))
+
 item_small : (i : Item) → IsWrittenItem i → NoneTooLarge (item_tokens i)
 item_small (plain date body) h = (refl, body_small body h.1)
+item_small (scheduled terms body) h =
+    none_in_row (schedule_tokens terms (decimal terms.every)) _ (header_small terms h.2)
+    (none_in_row (body_tokens body) (token.Key key.End ∷ []) (body_small body h.3) (refl, tt))
 
 script_small : (s : Script) → IsWrittenScript s → NoneTooLarge (script_tokens s)
 script_small [] h = tt

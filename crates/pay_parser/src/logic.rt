@@ -1,4 +1,4 @@
-//! The conditions that the parser makes.
+//! What stands left of a comparison in its condition, and the conditions that the parser makes.
 
 ghost use Rattle.std.specs.Prelude.{◌≡◌, Some, None, List, length, option_map, if◌then◌else◌};
 ghost use Rattle.pay_meaning.specs.Language.{Number, compare as compared, bare, negation, conjunction, disjunction};

@@ -1,5 +1,8 @@
 -- The brackets that are open in the canonical text of a script: in a statement at most one more than it has operators.
 use Rattle.std.proofs.Common.{◌≡◌, ℕ, zero, suc, ◌+◌, ◌≤◌, max, List, [], ◌∷◌, ◌++◌, if◌then◌else◌, refl, append_assoc, arith}
+use Rattle.std.specs.Fmt.{decimal}
+use Rattle.pay_dates.specs.declared.roll.Rule.{Rule}
+use Rattle.pay_dates.specs.declared.roll.Rule.TheVariants.{Stay, Following, Preceding, Modified}
 use Rattle.pay_lexer.specs.declared.token.Key.TheVariants as key
 use Rattle.pay_lexer.specs.declared.token.Sign.TheVariants as sign
 use Rattle.pay_lexer.specs.declared.token.TokenKind.{TokenKind}
@@ -7,14 +10,14 @@ use Rattle.pay_lexer.specs.declared.token.TokenKind.TheVariants as token
 use Rattle.pay_meaning.specs.Language.{Operator, add, subtract, multiply, divide, least, greatest, Number, literal, variable, spot, period, days}
 use Rattle.pay_meaning.specs.Language.{negative, absolute, binary, Comparison, less, at_most, greater, at_least, equals, differs, Condition, compare}
 use Rattle.pay_meaning.specs.Language.{negation, conjunction, disjunction, settled, sure, Statement, assign, pay, choose, group, Body, done, next}
-use Rattle.pay_meaning.specs.Language.{Item, plain, Script}
+use Rattle.pay_meaning.specs.Language.{Terms, Item, plain, scheduled, Script}
 use Rattle.pay_tree.specs.Text.{unless_empty}
-use Rattle.pay_parser.specs.Grammar.{sign_of}
+use Rattle.pay_parser.specs.Grammar.{sign_of, rule_tokens, schedule_tokens}
 use Rattle.pay_parser.specs.TokenLimits.{is_open_bracket, is_closing_bracket}
-use Rattle.pay_parser.proofs.CanonicalTokens.{binary_tokens, number_tokens, condition_tokens, statement_tokens, body_tokens, item_tokens}
-use Rattle.pay_parser.proofs.CanonicalTokens.{script_tokens}
-use Rattle.pay_parser.proofs.OperatorCounts.{operators_on, condition_operators_on, statement_operators, body_operators, item_operators}
-use Rattle.pay_parser.proofs.OperatorCounts.{script_operators}
+use Rattle.pay_canonical.proofs.CanonicalTokens.{binary_tokens, number_tokens, condition_tokens, statement_tokens, body_tokens, item_tokens}
+use Rattle.pay_canonical.proofs.CanonicalTokens.{script_tokens}
+use Rattle.pay_canonical.proofs.OperatorCounts.{operators_on, condition_operators_on, statement_operators, body_operators, item_operators}
+use Rattle.pay_canonical.proofs.OperatorCounts.{script_operators}
 
 -- one less, or none
 abbrev pub one_less : ℕ → ℕ
@@ -240,9 +243,31 @@ mutual
       regrouped most 0 (statement_tokens statement) (body_tokens others) rest
       (statement_stays most statement (body_tokens others ++ rest) (omega arith) (body_stays most others rest (omega arith) h))
 
+-- the word of a rule and `do` are no brackets
+rule_stays : (most : ℕ) (rule : Rule) (rest : List TokenKind) → StaysWithin most 0 rest
+    → StaysWithin most 0 ((rule_tokens rule ++ token.Key key.Do ∷ []) ++ rest)
+rule_stays most Stay rest h = (omega arith, h)
+rule_stays most Following rest h = (omega arith, (omega arith, h))
+rule_stays most Preceding rest h = (omega arith, (omega arith, h))
+rule_stays most Modified rest h = (omega arith, (omega arith, h))
+
+-- the header of a schedule has no bracket
+header_stays : (most : ℕ) (terms : Terms) (digits : List ℕ) (rest : List TokenKind) → StaysWithin most 0 rest
+    → StaysWithin most 0 (schedule_tokens terms digits ++ rest)
+header_stays most terms digits rest h =
+    let none : 0 ≤ most = omega arith in
+    (none, (none, (none, (none, (none, (none, (none, (none, rule_stays most terms.rule rest h))))))))
+
 item_stays : (most : ℕ) (i : Item) (rest : List TokenKind) → suc (item_operators i) ≤ most → StaysWithin most 0 rest
     → StaysWithin most 0 (item_tokens i ++ rest)
 item_stays most (plain date body) rest small h = (omega arith, body_stays most body rest small h)
+item_stays most (scheduled terms body) rest small h =
+    let inner : StaysWithin most 0 (body_tokens body ++ token.Key key.End ∷ rest) =
+    body_stays most body (token.Key key.End ∷ rest) small (omega arith, h) in
+    let whole : StaysWithin most 0 ((body_tokens body ++ token.Key key.End ∷ []) ++ rest) =
+    regrouped most 0 (body_tokens body) (token.Key key.End ∷ []) rest inner in
+    regrouped most 0 (schedule_tokens terms (decimal terms.every)) (body_tokens body ++ token.Key key.End ∷ []) rest
+    (header_stays most terms (decimal terms.every) ((body_tokens body ++ token.Key key.End ∷ []) ++ rest) whole)
 
 -- in the canonical tokens of a script at most one bracket more is open than a statement has operators
 pub script_stays : (most : ℕ) (s : Script) → suc (script_operators s) ≤ most → StaysWithin most 0 (script_tokens s)

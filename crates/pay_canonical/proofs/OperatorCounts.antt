@@ -2,19 +2,23 @@
 use Rattle.std.proofs.Common.{◌≡◌, ℕ, suc, max, Bool, true, false, List, [], ◌∷◌, ◌++◌, refl, ap, ◌∙◌, arith}
 use Rattle.std.proofs.lemmas.Bool.{false≢true}
 use Rattle.pay_dates.specs.declared.day.Day.{Day}
+use Rattle.pay_dates.specs.declared.roll.Rule.{Rule}
+use Rattle.pay_dates.specs.declared.roll.Rule.TheVariants.{Stay, Following, Preceding, Modified}
 use Rattle.pay_lexer.specs.declared.token.Key.TheVariants as key
 use Rattle.pay_lexer.specs.declared.token.Sign.TheVariants as sign
 use Rattle.pay_lexer.specs.declared.token.TokenKind.{TokenKind}
 use Rattle.pay_lexer.specs.declared.token.TokenKind.TheVariants as token
 use Rattle.pay_meaning.specs.Language.{Operator, Number, literal, variable, spot, period, days, negative, absolute, binary, Comparison, less, at_most}
 use Rattle.pay_meaning.specs.Language.{greater, at_least, equals, differs, Condition, compare, negation, conjunction, disjunction, settled, sure}
-use Rattle.pay_meaning.specs.Language.{Statement, assign, pay, choose, group, Body, done, next, and_then, Item, plain, Script}
+use Rattle.pay_meaning.specs.Language.{Statement, assign, pay, choose, group, Body, done, next, and_then, Terms, Item, plain, scheduled, Script}
+use Rattle.pay_meaning.specs.Words.{unit_word}
 use Rattle.pay_parser.specs.Grammar.{SpellsNumber, one_term, plus, minus, SpellsTerm, one_factor, times, over, SpellsFactor, one_atom, minus_sign}
 use Rattle.pay_parser.specs.Grammar.{SpellsAtom, of_literal, of_variable, in_brackets, of_least, of_greatest, of_absolute, of_spot, of_period}
 use Rattle.pay_parser.specs.Grammar.{of_days, SpellsArguments, two, one_more_number, sign_of, SpellsCondition, one_conjunction, or_else}
 use Rattle.pay_parser.specs.Grammar.{SpellsConjunction, one_negation, and_also, SpellsNegation, not_sign, two_numbers, condition_in_brackets}
 use Rattle.pay_parser.specs.Grammar.{SpellsSimple, assignment, payment, SpellsStatement, simple, simple_ended, choice, choice_ended, SpellsChoice}
-use Rattle.pay_parser.specs.Grammar.{without_else, with_else, SpellsBody, no_statement, one_more, SpellsItem, dated, SpellsScript, no_item, one_more_item}
+use Rattle.pay_parser.specs.Grammar.{without_else, with_else, SpellsBody, no_statement, one_more, rule_tokens, schedule_tokens, SpellsItem, dated, rolled}
+use Rattle.pay_parser.specs.Grammar.{SpellsScript, no_item, one_more_item}
 use Rattle.pay_parser.specs.TokenLimits.{is_word, is_operator}
 
 -- what a token is to the one after it: a stretch begins there, or begins there at a word, or goes on
@@ -109,6 +113,7 @@ abbrev mutual
 
 abbrev pub item_operators : Item → ℕ
 item_operators (plain date body) = body_operators body
+item_operators (scheduled terms body) = body_operators body
 
 abbrev pub script_operators : Script → ℕ
 script_operators [] = 0
@@ -324,10 +329,54 @@ date_counted : (c : Count) (date : Day) → Stands c → Counts c (token.Date da
 date_counted _ date (freely here most) = record { to = count opens 0 (max most here); stands = freely _ _; leads = refl; is = omega arith }
 date_counted _ date (after_value here most) = record { to = count opens here most; stands = freely _ _; leads = refl; is = omega arith }
 
+-- `end` after the statements of a schedule
+end_counted : (c : Count) → Stands c → Counts c (token.Key key.End ∷ []) 0
+end_counted _ (freely here most) = record { to = count opens 0 (max most here); stands = freely _ _; leads = refl; is = omega arith }
+end_counted _ (after_value here most) = record { to = count opens here most; stands = freely _ _; leads = refl; is = omega arith }
+
+-- the unit's word begins a stretch after the count, and no operator stands in it
+unit_counted : (rule : Rule) (word : List ℕ) (most : ℕ)
+    → count_all (count ends_value 0 most) (token.Word word ∷ (rule_tokens rule ++ token.Key key.Do ∷ [])) ≡ count opens 0 (max most 0)
+unit_counted Stay word most = refl
+unit_counted Following word most = refl
+unit_counted Preceding word most = refl
+unit_counted Modified word most = refl
+
+-- what stands in the header of a schedule after the first of its dates
+abbrev later_tokens : Terms → List ℕ → List TokenKind
+later_tokens terms digits =
+    token.Key key.To ∷ token.Date terms.last ∷ token.Key key.Every ∷ token.Number digits ∷ token.Word (unit_word terms.unit)
+    ∷ (rule_tokens terms.rule ++ token.Key key.Do ∷ [])
+
+-- no operator stands there, and `do` ends its last stretch
+later_counted : (terms : Terms) (digits : List ℕ) (here most : ℕ) → Counts (count opens here most) (later_tokens terms digits) 0
+later_counted terms digits here most = record {
+  to = count opens 0 (max (max (max most here) 0) 0);
+  stands = freely _ _;
+  leads = unit_counted terms.rule (unit_word terms.unit) (max (max most here) 0);
+  is = omega arith;
+}
+
+-- the header of a schedule: what stands before it in its first stretch stays as it is, and it has no operator of its own
+header_counted : (terms : Terms) (digits : List ℕ) (c : Count) → Stands c → Counts c (schedule_tokens terms digits) 0
+header_counted terms digits _ (freely here most) =
+    let r = later_counted terms digits 0 (max most here) in
+    record { to = r.to; stands = r.stands; leads = r.leads; is = let last = r.is in omega arith }
+header_counted terms digits _ (after_value here most) =
+    let r = later_counted terms digits here most in
+    record { to = r.to; stands = r.stands; leads = r.leads; is = let last = r.is in omega arith }
+
+-- statements with `end` after them
+with_end : (from : Count) (ts : List TokenKind) (operators : ℕ) → Counts from ts operators → Counts from (ts ++ token.Key key.End ∷ []) operators
+with_end from ts operators h = counts_then from ts _ _ _ _ h (end_counted h.to h.stands) (omega arith)
+
 item_counted : (ts : List TokenKind) (i : Item) → SpellsItem ts i → (c : Count) → Stands c → Counts c ts (item_operators i)
 item_counted _ _ (dated date ts b h) c k =
     let r = date_counted c date k in
     counts_then c (token.Date date ∷ []) ts _ _ _ r (body_counted ts b h r.to r.stands) (omega arith)
+item_counted _ _ (rolled terms digits ts b h i) c k =
+    let r = header_counted terms digits c k in
+    counts_then c (schedule_tokens terms digits) _ _ _ _ r (with_end r.to ts _ (body_counted ts b i r.to r.stands)) (omega arith)
 
 one_more_item_operators : (items : Script) (i : Item) → max (script_operators items) (item_operators i) ≡ script_operators (items ++ i ∷ [])
 one_more_item_operators [] i = omega arith

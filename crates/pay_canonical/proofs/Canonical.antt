@@ -3,13 +3,13 @@ use Rattle.pay_lexer.proofs.LawLemmas.{read_kinds_are_spelled, spelled_tokens_ar
 use Rattle.pay_lexer.proofs.TokenForms.{token_forms}
 use Rattle.pay_tree.specs.Text.{script_text}
 use Rattle.pay_parser.specs.TokenLimits.{kinds}
-use Rattle.pay_parser.specs.CanonicalLaw.{CanonicalTextSpells, CanonicalTextReadsBack}
 use Rattle.pay_parser.proofs.ScriptComplete.{spelled_script_is_read}
-use Rattle.pay_parser.proofs.CanonicalTokens.{script_tokens, script_spelled}
-use Rattle.pay_parser.proofs.CanonicalLexed.{script_lexed}
-use Rattle.pay_parser.proofs.CanonicalSizes.{canonical_small}
-use Rattle.pay_parser.proofs.CanonicalDepths.{canonical_not_deep}
-use Rattle.pay_parser.proofs.Written.{script_written}
+use Rattle.pay_canonical.specs.CanonicalLaw.{CanonicalTextSpells, CanonicalTextReadsBack}
+use Rattle.pay_canonical.proofs.CanonicalTokens.{script_tokens, script_spelled}
+use Rattle.pay_canonical.proofs.CanonicalLexed.{script_lexed}
+use Rattle.pay_canonical.proofs.CanonicalSizes.{canonical_small}
+use Rattle.pay_canonical.proofs.CanonicalDepths.{canonical_not_deep}
+use Rattle.pay_canonical.proofs.Written.{script_written}
 
 pub canonical_text_spells : CanonicalTextSpells
 canonical_text_spells text ts s lexed spelled within =

@@ -1,6 +1,6 @@
 //! Laws of the canonical text. Each stands on a function with an empty body; the function's clause is the law.
 
-ghost use Rattle.pay_parser.specs.CanonicalLaw.{CanonicalTextSpells, CanonicalTextReadsBack};
+ghost use Rattle.pay_canonical.specs.CanonicalLaw.{CanonicalTextSpells, CanonicalTextReadsBack};
 
 /// Where a text spells tokens that pass no limit and spell a script, the script's canonical text spells such tokens too.
 pub fn canonical_text_spells()

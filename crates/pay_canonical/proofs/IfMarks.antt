@@ -1,19 +1,23 @@
 -- The ifs that are open along tokens: the `if`s and `endif`s of tokens are determined by the script that they spell.
-use Rattle.std.proofs.Common.{◌≡◌, Bool, true, false, ◌||◌, List, [], ◌∷◌, ◌++◌, filter, ℤ, ◌+ℤ◌, ◌≤ℤ◌, inl, inr, refl, sym, ap, ◌∙◌, append_assoc}
+use Rattle.std.proofs.Common.{◌≡◌, ℕ, Bool, true, false, ◌||◌, List, [], ◌∷◌, ◌++◌, filter, ℤ, ◌+ℤ◌, ◌≤ℤ◌, inl, inr, refl, sym, ap, ◌∙◌, append_assoc}
 use Rattle.std.proofs.Common.{append-nil, arith}
 use Rattle.std.proofs.lemmas.Bool.{cases_Bool, false≢true}
 use Rattle.std.proofs.lemmas.Int.{ints}
 use Rattle.std.proofs.lemmas.List.Elements.{filter-append}
+use Rattle.pay_dates.specs.declared.roll.Rule.{Rule}
+use Rattle.pay_dates.specs.declared.roll.Rule.TheVariants.{Stay, Following, Preceding, Modified}
 use Rattle.pay_lexer.specs.declared.token.Key.TheVariants as key
 use Rattle.pay_lexer.specs.declared.token.TokenKind.{TokenKind}
 use Rattle.pay_lexer.specs.declared.token.TokenKind.TheVariants as token
-use Rattle.pay_meaning.specs.Language.{Operator, Number, Condition, Statement, assign, pay, choose, group, Body, done, next, and_then, Item, plain, Script}
+use Rattle.pay_meaning.specs.Language.{Operator, Number, Condition, Statement, assign, pay, choose, group, Body, done, next, and_then, Terms, Item}
+use Rattle.pay_meaning.specs.Language.{plain, scheduled, Script}
 use Rattle.pay_parser.specs.Grammar.{SpellsNumber, one_term, plus, minus, SpellsTerm, one_factor, times, over, SpellsFactor, one_atom, minus_sign}
 use Rattle.pay_parser.specs.Grammar.{SpellsAtom, of_literal, of_variable, in_brackets, of_least, of_greatest, of_absolute, of_spot, of_period}
 use Rattle.pay_parser.specs.Grammar.{of_days, SpellsArguments, two, one_more_number, SpellsCondition, one_conjunction, or_else, SpellsConjunction}
 use Rattle.pay_parser.specs.Grammar.{one_negation, and_also, SpellsNegation, not_sign, two_numbers, condition_in_brackets, SpellsSimple, assignment}
 use Rattle.pay_parser.specs.Grammar.{payment, SpellsStatement, simple, simple_ended, choice, choice_ended, SpellsChoice, without_else, with_else}
-use Rattle.pay_parser.specs.Grammar.{SpellsBody, no_statement, one_more, SpellsItem, dated, SpellsScript, no_item, one_more_item}
+use Rattle.pay_parser.specs.Grammar.{SpellsBody, no_statement, one_more, rule_tokens, schedule_tokens, SpellsItem, dated, rolled, SpellsScript, no_item}
+use Rattle.pay_parser.specs.Grammar.{one_more_item}
 use Rattle.pay_parser.specs.TokenLimits.{is_if, is_endif, open_ifs}
 
 -- an `if` or an `endif`
@@ -44,6 +48,7 @@ abbrev mutual
 
 abbrev pub item_if_marks : Item → List TokenKind
 item_if_marks (plain date body) = body_if_marks body
+item_if_marks (scheduled terms body) = body_if_marks body
 
 abbrev pub script_if_marks : Script → List TokenKind
 script_if_marks [] = []
@@ -127,8 +132,20 @@ mutual
   body_marks _ _ no_statement = refl
   body_marks _ _ (one_more ts us b s h k) = marks_of ts us _ _ (body_marks ts b h) (statement_marks us s k) ∙ one_more_marks b s
 
+rule_marks : (rule : Rule) → if_marks (rule_tokens rule ++ token.Key key.Do ∷ []) ≡ []
+rule_marks Stay = refl
+rule_marks Following = refl
+rule_marks Preceding = refl
+rule_marks Modified = refl
+
+-- the header of a schedule has none of them
+header_marks : (terms : Terms) (digits : List ℕ) → if_marks (schedule_tokens terms digits) ≡ []
+header_marks terms digits = rule_marks terms.rule
+
 item_marks : (ts : List TokenKind) (i : Item) → SpellsItem ts i → if_marks ts ≡ item_if_marks i
 item_marks _ _ (dated date ts b h) = body_marks ts b h
+item_marks _ _ (rolled terms digits ts b h k) =
+    marks_of (schedule_tokens terms digits) _ [] _ (header_marks terms digits) (marks_of ts _ _ [] (body_marks ts b k) refl) ∙ append-nil (body_if_marks b)
 
 one_more_item_marks : (items : Script) (i : Item) → script_if_marks items ++ item_if_marks i ≡ script_if_marks (items ++ i ∷ [])
 one_more_item_marks [] i = sym (append-nil (item_if_marks i))

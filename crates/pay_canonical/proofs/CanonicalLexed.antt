@@ -1,12 +1,17 @@
 -- The canonical text of a script is cut into its tokens.
-use Rattle.std.proofs.Common.{◌≡◌, ℕ, ℤ, pos, ◌≤ℤ◌, codes, Bool, false, int_lt, IsTrue, inl, inr, List, [], ◌∷◌, ◌++◌, Some, refl, sym, ap, ◌∙◌}
+use Rattle.std.proofs.Common.{◌≡◌, ℕ, ◌*◌, ℤ, pos, ◌≤ℤ◌, codes, Bool, false, int_lt, IsTrue, inl, inr, List, [], ◌∷◌, ◌++◌, Some, refl, sym, ap, ◌∙◌}
 use Rattle.std.proofs.Common.{subst, append-nil, append_assoc, arith}
+use Rattle.std.specs.Fmt.{decimal}
 use Rattle.std.specs.List.{list_all}
 use Rattle.std.proofs.lemmas.Bool.{and_from}
 use Rattle.std.proofs.lemmas.Bool.Decides.{nat_tests}
 use Rattle.std.proofs.lemmas.Int.{ints}
 use Rattle.pay_dates.specs.Days.{IsDay}
 use Rattle.pay_dates.specs.declared.day.Day.{Day}
+use Rattle.pay_dates.specs.declared.roll.Rule.{Rule}
+use Rattle.pay_dates.specs.declared.roll.Rule.TheVariants.{Stay, Following, Preceding, Modified}
+use Rattle.pay_dates.specs.declared.roll.Unit.{Unit as StepUnit}
+use Rattle.pay_dates.specs.declared.roll.Unit.TheVariants.{Days, Weeks, Months, Years}
 use Rattle.pay_fixed.specs.Round.{IsRaw}
 use Rattle.pay_fixed.specs.Grammar.{AreDigits, IsNumeral, SpellsFraction, no_fraction, point}
 use Rattle.pay_fixed.specs.Decimal.{decimal_of, decimal_text, sign_text, point_text}
@@ -24,14 +29,14 @@ use Rattle.pay_meaning.proofs.EventLaws.{lt-cases}
 use Rattle.pay_meaning.specs.Language.{Operator, add, subtract, multiply, divide, least, greatest, Number, literal, variable, spot, period, days}
 use Rattle.pay_meaning.specs.Language.{negative, absolute, binary, Comparison, less, at_most, greater, at_least, equals, differs, Condition}
 use Rattle.pay_meaning.specs.Language.{compare, negation, conjunction, disjunction, settled, sure, Statement, assign, pay, choose, group, Body}
-use Rattle.pay_meaning.specs.Language.{done, next, Item, plain, Script}
-use Rattle.pay_meaning.specs.Words.{is_digit}
+use Rattle.pay_meaning.specs.Language.{done, next, Terms, Item, plain, scheduled, Script}
+use Rattle.pay_meaning.specs.Words.{is_digit, is_keyword, is_name, IsName, unit_word}
 use Rattle.pay_tree.specs.Text.{opening, between, number_text, comparing, condition_text, if_line, word_line, deeper, unless_empty, statement_text}
-use Rattle.pay_tree.specs.Text.{body_text, item_indent, date_line, item_text, script_text}
-use Rattle.pay_parser.specs.Grammar.{sign_of, bracketed}
-use Rattle.pay_parser.proofs.CanonicalTokens.{IsWritten, IsWrittenCondition, IsWrittenStatement, IsWrittenBody, IsWrittenItem, IsWrittenScript}
-use Rattle.pay_parser.proofs.CanonicalTokens.{signed_tokens, binary_tokens, number_tokens, condition_tokens, statement_tokens, body_tokens, item_tokens}
-use Rattle.pay_parser.proofs.CanonicalTokens.{script_tokens}
+use Rattle.pay_tree.specs.Text.{body_text, item_indent, date_line, rule_text, dates_text, step_text, schedule_line, item_text, script_text}
+use Rattle.pay_parser.specs.Grammar.{sign_of, bracketed, rule_tokens, schedule_tokens}
+use Rattle.pay_canonical.proofs.CanonicalTokens.{IsWritten, IsWrittenCondition, IsWrittenStatement, IsWrittenBody, IsWrittenItem, IsWrittenScript}
+use Rattle.pay_canonical.proofs.CanonicalTokens.{signed_tokens, binary_tokens, number_tokens, condition_tokens, statement_tokens, body_tokens, item_tokens}
+use Rattle.pay_canonical.proofs.CanonicalTokens.{script_tokens, count_text}
 
 -- the bytes that follow names and numbers in the canonical text
 blank_ends : Ends 32
@@ -321,8 +326,75 @@ line_feed_read = record { reads = λ rest us e. rw e refl }
 date_line_read : (date : Day) → IsDay date → Apart (date_line date) (token.Date date ∷ [])
 date_line_read date h = then_apart (date_read date h) line_feed_read
 
+schedule_read : Apart (codes "schedule from ") (token.Key key.Schedule ∷ token.Key key.From ∷ [])
+unfolding key_of
+schedule_read = record { reads = λ rest us e. rw e refl }
+
+to_read : Apart (codes " to ") (token.Key key.To ∷ [])
+unfolding key_of
+to_read = record { reads = λ rest us e. rw e refl }
+
+every_read : Apart (codes " every ") (token.Key key.Every ∷ [])
+unfolding key_of
+every_read = record { reads = λ rest us e. rw e refl }
+
+blank_read : Apart (codes " ") []
+blank_read = record { reads = λ rest us e. rw e refl }
+
+-- the word of a rule, if there is one, and `do`
+do_read : (rule : Rule) → Apart (rule_text rule ++ codes " do\n") (rule_tokens rule ++ token.Key key.Do ∷ [])
+unfolding key_of
+do_read Stay = record { reads = λ rest us e. rw e refl }
+do_read Following = record { reads = λ rest us e. rw e refl }
+do_read Preceding = record { reads = λ rest us e. rw e refl }
+do_read Modified = record { reads = λ rest us e. rw e refl }
+
+end_read : Apart (codes "end\n") (token.Key key.End ∷ [])
+unfolding key_of
+end_read = record { reads = λ rest us e. rw e refl }
+
+-- the word of a unit is a name
+unit_name : (unit : StepUnit) → IsName (unit_word unit)
+unfolding is_name is_keyword
+unit_name Days = refl
+unit_name Weeks = refl
+unit_name Months = refl
+unit_name Years = refl
+
+-- the word of a unit and the rest of the line, which begins with a blank
+unit_read : (unit : StepUnit) (rule : Rule) → Apart (unit_word unit ++ (rule_text rule ++ codes " do\n"))
+    (token.Word (unit_word unit) ∷ (rule_tokens rule ++ token.Key key.Do ∷ []))
+unit_read unit Stay = ended_then 32 (name_read (unit_word unit) (unit_name unit)) blank_ends (do_read Stay)
+unit_read unit Following = ended_then 32 (name_read (unit_word unit) (unit_name unit)) blank_ends (do_read Following)
+unit_read unit Preceding = ended_then 32 (name_read (unit_word unit) (unit_name unit)) blank_ends (do_read Preceding)
+unit_read unit Modified = ended_then 32 (name_read (unit_word unit) (unit_name unit)) blank_ends (do_read Modified)
+
+-- the digits of a count are a number
+count_number : (n : ℕ) → IsRaw (pos (n * 10_000)) → IsNumber (decimal n)
+count_number n h = rw (count_text n) at (literal_number (pos (n * 10_000)) (omega (arith, ints)) h)
+
+-- the two dates of a schedule
+dates_read : (first last : Day) → IsDay first → IsDay last → Apart (dates_text first last)
+    (token.Key key.Schedule ∷ token.Key key.From ∷ token.Date first ∷ token.Key key.To ∷ token.Date last ∷ [])
+dates_read first last h k = then_apart schedule_read (then_apart (date_read first h) (then_apart to_read (date_read last k)))
+
+-- the step of a schedule and `do`
+step_read : (every : ℕ) (unit : StepUnit) (rule : Rule) → IsRaw (pos (every * 10_000)) → Apart (step_text every unit rule ++ codes " do\n")
+    (token.Key key.Every ∷ token.Number (decimal every) ∷ token.Word (unit_word unit) ∷ (rule_tokens rule ++ token.Key key.Do ∷ []))
+step_read every unit rule h =
+    let from_unit : Apart (codes " " ++ (unit_word unit ++ (rule_text rule ++ codes " do\n")))
+    (token.Word (unit_word unit) ∷ (rule_tokens rule ++ token.Key key.Do ∷ [])) = then_apart blank_read (unit_read unit rule) in
+    let all = then_apart every_read (ended_then 32 (number_read (decimal every) (count_number every h)) blank_ends from_unit) in
+    simp append_assoc all
+
+schedule_line_read : (terms : Terms) → IsDay terms.first → IsDay terms.last → IsRaw (pos (terms.every * 10_000))
+    → Apart (schedule_line terms) (schedule_tokens terms (decimal terms.every))
+schedule_line_read terms h k l = then_apart (dates_read terms.first terms.last h k) (step_read terms.every terms.unit terms.rule l)
+
 item_read : (i : Item) → IsWrittenItem i → Apart (item_text i) (item_tokens i)
 item_read (plain date body) h = then_apart (date_line_read date h.0) (body_read item_indent body item_indent_read h.1)
+item_read (scheduled terms body) h =
+    then_apart (schedule_line_read terms h.0 h.1 h.2) (then_apart (body_read item_indent body item_indent_read h.3) end_read)
 
 script_read : (s : Script) → IsWrittenScript s → Apart (script_text s) (script_tokens s)
 script_read [] h = nothing
@@ -332,6 +404,7 @@ script_read (item ∷ rest) h = then_apart (item_read item h.0) (script_read res
 no_mark : (s : Script) → mark_length (script_text s) ≡ 0
 no_mark [] = refl
 no_mark (plain date body ∷ rest) = refl
+no_mark (scheduled terms body ∷ rest) = refl
 
 -- the canonical text of a script is read as its tokens
 pub script_lexed : (s : Script) → IsWrittenScript s → kinds_in (script_text s) ≡ Some (script_tokens s)

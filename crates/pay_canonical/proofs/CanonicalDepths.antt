@@ -16,11 +16,11 @@ use Rattle.pay_parser.specs.Grammar.{SpellsScript}
 use Rattle.pay_parser.specs.TokenLimits.{kinds, is_open_bracket, is_closing_bracket, is_operator, count, first_too_deep}
 use Rattle.pay_parser.specs.TokenDepths.{begins_after, Depths, nothing_counted, deeper, is_deep, first_deep}
 use Rattle.pay_parser.proofs.DepthLemmas.{first_deep_is}
-use Rattle.pay_parser.proofs.CanonicalTokens.{IsWrittenScript, script_tokens, script_spelled}
-use Rattle.pay_parser.proofs.OperatorCounts.{Role, opens, role, begins, Count, count as counts, one_if, counted_as, counted, count_all, total}
-use Rattle.pay_parser.proofs.OperatorCounts.{script_operators, script_counted}
-use Rattle.pay_parser.proofs.BracketCounts.{one_less, opened, StaysWithin, script_stays}
-use Rattle.pay_parser.proofs.IfMarks.{IfsWithin, if_marks, script_marks, ifs_to_marks, ifs_from_marks}
+use Rattle.pay_canonical.proofs.CanonicalTokens.{IsWrittenScript, script_tokens, script_spelled}
+use Rattle.pay_canonical.proofs.OperatorCounts.{Role, opens, role, begins, Count, count as counts, one_if, counted_as, counted, count_all, total}
+use Rattle.pay_canonical.proofs.OperatorCounts.{script_operators, script_counted}
+use Rattle.pay_canonical.proofs.BracketCounts.{one_less, opened, StaysWithin, script_stays}
+use Rattle.pay_canonical.proofs.IfMarks.{IfsWithin, if_marks, script_marks, ifs_to_marks, ifs_from_marks}
 
 few : (n most : ℕ) → n ≤ most → nat_lt most n ≡ false
 few n most h = grind (arith, nat_tests)

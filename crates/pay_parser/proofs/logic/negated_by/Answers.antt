@@ -2,7 +2,7 @@
 use Rattle.std.proofs.Common.{arith}
 use Rattle.pay_tree.specs.Views.{condition}
 use Rattle.pay_parser.proofs.NotLemmas.{negated_drop}
-use Rattle.pay_parser.proofs.condition.negated_by.Goals as goal
+use Rattle.pay_parser.proofs.logic.negated_by.Goals as goal
 
 pub loop-preserved : goal.loop-preserved
 loop-preserved c =

@@ -1,0 +1,9 @@
+pub mod CanonicalTokens
+pub mod Written
+pub mod CanonicalLexed
+pub mod OperatorCounts
+pub mod BracketCounts
+pub mod IfMarks
+pub mod CanonicalSizes
+pub mod CanonicalDepths
+pub mod Canonical

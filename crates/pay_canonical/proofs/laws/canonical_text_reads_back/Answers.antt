@@ -1,0 +1,5 @@
+use Rattle.pay_canonical.proofs.Canonical.{canonical_text_reads_back}
+use Rattle.pay_canonical.proofs.laws.canonical_text_reads_back.Goals as goal
+
+pub returns : goal.returns
+returns c = canonical_text_reads_back

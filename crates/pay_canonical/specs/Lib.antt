@@ -1,0 +1,2 @@
+-- What the contracts of `pay_canonical` cite.
+pub mod CanonicalLaw
