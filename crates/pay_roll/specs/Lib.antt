@@ -1,0 +1,4 @@
+-- What the contract of `pay_roll` cites.
+pub mod Rolling
+pub mod Plans
+pub mod Laws
