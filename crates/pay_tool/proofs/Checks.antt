@@ -1,5 +1,5 @@
 -- A script and a table are accepted, and refused, exactly for their causes.
-use Rattle.std.proofs.Common.{◌≡◌, ℕ, ◌≤◌, ◌<◌, nat_le, Bool, inl, inr, true, false, List, [], ◌∷◌, length, map, Option, Some, None, Result, Ok}
+use Rattle.std.proofs.Common.{◌≡◌, ℕ, ◌≤◌, ◌<◌, nat_le, Bool, inl, inr, true, false, List, ◌∷◌, length, Option, Some, None, Result, Ok}
 use Rattle.std.proofs.Common.{Err, if◌then◌else◌, ℤ, ◌≤ℤ◌, refl, sym, ap, subst, arith, ◌∙◌}
 use Rattle.std.proofs.lemmas.Bool.{cases_Bool, leb-true, leb-false, le-leb}
 use Rattle.std.proofs.lemmas.Int.{ints}
@@ -15,8 +15,7 @@ use Rattle.pay_lexer.specs.declared.fault.LexFault.TheVariants as lexing
 use Rattle.pay_lexer.specs.Lexing.{tokens_in, kinds}
 use Rattle.pay_lexer.proofs.LawLemmas.{tokens_are_spelled, spelled_tokens_are_read, bad_place_is_first, first_bad_place_is_read}
 use Rattle.pay_meaning.specs.Language.{Event, Script}
-use Rattle.pay_meaning.specs.Events.{event_of, events_of, in_order, shared_date, IsShared, IsEarliestShared}
-use Rattle.pay_meaning.specs.Parts.{Part, script_parts}
+use Rattle.pay_meaning.specs.Events.{all_events, events_of, in_order, shared_date, IsShared, IsEarliestShared}
 use Rattle.pay_meaning.proofs.EventLaws.{shared-earliest}
 use Rattle.pay_parser.specs.Grammar.{SpellsScript}
 use Rattle.pay_parser.specs.Reading.{script_in}
@@ -26,18 +25,21 @@ use Rattle.pay_parser.specs.declared.parse_fault.ParseFault.{ParseFault}
 use Rattle.pay_parser.specs.declared.parse_fault.ParseFault.TheVariants as parsing
 use Rattle.pay_parser.proofs.ScriptSound.{script_is_spelled}
 use Rattle.pay_parser.proofs.ScriptComplete.{spelled_script_is_read}
+use Rattle.pay_roll.specs.declared.refusal.What.{What}
+use Rattle.pay_roll.specs.declared.refusal.What.TheVariants.{Events}
+use Rattle.pay_roll.specs.Rolling.{first_bad, first_of}
 use Rattle.pay_tool.specs.declared.refusal.Refusal.{Refusal}
-use Rattle.pay_tool.specs.declared.refusal.Refusal.TheVariants.{SameDate, TooMany, NotTable}
-use Rattle.pay_tool.specs.declared.refusal.What.{What}
-use Rattle.pay_tool.specs.declared.refusal.What.TheVariants.{Events}
+use Rattle.pay_tool.specs.declared.refusal.Refusal.TheVariants.{BadSchedule, SameDate, TooMany}
 use Rattle.pay_tool.specs.TableReading.{scenarios_in}
-use Rattle.pay_tool.specs.Limits.{event_limit, refusal_beyond, first_of, part_refusals, KeepsLimits}
+use Rattle.pay_tool.specs.Limits.{event_limit, refusal_beyond, part_refusals, HasGoodSchedules, KeepsLimits}
+use Rattle.pay_tool.specs.Trades.{Trade, trade_of}
 use Rattle.pay_tool.specs.Tables.{Table, SpellsTable}
 use Rattle.pay_tool.specs.Answers.{Input, not_there, bad, good, unless, parsed_input, lexed_input, checked_script, checked_table, table_if}
-use Rattle.pay_tool.specs.CheckLaws.{Spells, HasDistinctDates, IsScriptText, IsScriptFault, bad_byte, too_large, too_deep, no_script}
-use Rattle.pay_tool.specs.CheckLaws.{too_many_events, same_date, too_many_parts, IsTableFault, no_table, ScriptAcceptanceHasCause}
+use Rattle.pay_tool.specs.CheckLaws.{Spells, SpellsFew, HasDistinctDates, IsScriptText, IsScriptFault, bad_byte, too_large, too_deep, no_script}
+use Rattle.pay_tool.specs.CheckLaws.{bad_schedule, too_many_events, same_date, too_many_parts, IsTableFault, no_table, ScriptAcceptanceHasCause}
 use Rattle.pay_tool.specs.CheckLaws.{ScriptRefusalHasCause, TableAcceptanceHasCause, TableRefusalHasCause}
 use Rattle.pay_tool.specs.Stops.{Stops, StopsScript, stop_of_lexing, stop_of_parsing}
+use Rattle.pay_tool.proofs.Rolled.{own, own_refusals, none_bad, all_good}
 use Rattle.pay_tool.proofs.TableSound.{table_is_spelled}
 use Rattle.pay_tool.proofs.TableComplete.{spelled_table_is_read}
 
@@ -47,7 +49,7 @@ HasCause Gives HasFault bytes not_there = ⊥
 HasCause Gives HasFault bytes (bad refusal) = HasFault bytes refusal
 HasCause Gives HasFault bytes (good value) = Gives bytes value
 
-abbrev ScriptCause : List ℕ → Input (List Event) → Type 0
+abbrev ScriptCause : List ℕ → Input Trade → Type 0
 ScriptCause bytes input = HasCause IsScriptText IsScriptFault bytes input
 
 -- a test that fails
@@ -67,53 +69,66 @@ within_of what limit count rest e = elim (cases_Bool (nat_le count limit)) [
 none_beyond : (what : What) (limit count : ℕ) (rest : List (Option Refusal)) → count ≤ limit → first_of (refusal_beyond what limit count ∷ rest) ≡ first_of rest
 none_beyond what limit count rest h = rw (le-leb count limit h) refl
 
-keeps_of : (parts : List Part) → first_of (part_refusals parts) ≡ None → KeepsLimits parts
-keeps_of parts e =
+keeps_of : (script : Script) → first_of (part_refusals script) ≡ None → KeepsLimits script
+keeps_of script e =
     let nodes = within_of _ _ _ _ e in
     let payments = within_of _ _ _ _ nodes.1 in
     let variables = within_of _ _ _ _ payments.1 in
     let legs = within_of _ _ _ _ variables.1 in
     record { nodes = nodes.0; payments = payments.0; variables = variables.0; legs = legs.0 }
 
-none_refused : (parts : List Part) → KeepsLimits parts → first_of (part_refusals parts) ≡ None
-none_refused parts k =
+none_refused : (script : Script) → KeepsLimits script → first_of (part_refusals script) ≡ None
+none_refused script k =
     none_beyond _ _ _ _ k.nodes ∙ none_beyond _ _ _ _ k.payments ∙ none_beyond _ _ _ _ k.variables ∙ none_beyond _ _ _ _ k.legs
 
--- the input that a script gives, from its parts
-from_parts : (bytes : List ℕ) (tokens : List Token) (script : Script) → Spells bytes tokens script → length script ≤ event_limit → HasDistinctDates script
-    → (found : Option Refusal) → first_of (part_refusals (script_parts script)) ≡ found → ScriptCause bytes (unless found (events_of script))
-from_parts bytes tokens script s few dates (Some refusal) e = too_many_parts tokens script refusal s few dates e
-from_parts bytes tokens script s few dates None e = record {
+-- the input that a script gives, from its parts and its names
+from_parts : (bytes : List ℕ) (tokens : List Token) (script : Script) → SpellsFew bytes tokens script → HasDistinctDates script
+    → (found : Option Refusal) → first_of (part_refusals script) ≡ found → ScriptCause bytes (unless found (trade_of script))
+from_parts bytes tokens script s dates (Some refusal) e = too_many_parts tokens script refusal s dates e
+from_parts bytes tokens script s dates None e = record {
   tokens = tokens;
   script = script;
-  spells = s;
-  few_events = few;
+  spells = s.spells;
+  schedules = s.schedules;
+  few_events = s.few_events;
   dates = dates;
-  keeps = keeps_of (script_parts script) e;
-  ordered = refl;
+  keeps = keeps_of script e;
+  has = refl;
 }
 
 -- from its dates
-from_dates : (bytes : List ℕ) (tokens : List Token) (script : Script) → Spells bytes tokens script → length script ≤ event_limit
+from_dates : (bytes : List ℕ) (tokens : List Token) (script : Script) → SpellsFew bytes tokens script
     → (shared : Option Day) → shared_date (events_of script) ≡ shared
-    → ScriptCause bytes (unless (first_of (option_map (λ date. SameDate date) shared ∷ part_refusals (script_parts script))) (events_of script))
-from_dates bytes tokens script s few (Some date) e = same_date tokens script date s few (shared-earliest.found (map event_of script) date e)
-from_dates bytes tokens script s few None e =
-    from_parts bytes tokens script s few (shared-earliest.none (map event_of script) e) (first_of (part_refusals (script_parts script))) refl
+    → ScriptCause bytes (unless (first_of (option_map (λ date. SameDate date) shared ∷ part_refusals script)) (trade_of script))
+from_dates bytes tokens script s (Some date) e = same_date tokens script date s (shared-earliest.found (all_events script) date e)
+from_dates bytes tokens script s None e =
+    from_parts bytes tokens script s (shared-earliest.none (all_events script) e) (first_of (part_refusals script)) refl
 
 -- from its number of events
-from_events : (bytes : List ℕ) (tokens : List Token) (script : Script) → Spells bytes tokens script → (few : Bool) → nat_le (length script) event_limit ≡ few
+from_events : (bytes : List ℕ) (tokens : List Token) (script : Script) → Spells bytes tokens script → HasGoodSchedules script
+    → (few : Bool) → nat_le (length (all_events script)) event_limit ≡ few
     → ScriptCause bytes (unless (first_of ((if few then None else Some (TooMany Events event_limit))
-    ∷ option_map (λ date. SameDate date) (shared_date (events_of script)) ∷ part_refusals (script_parts script))) (events_of script))
-from_events bytes tokens script s true e = from_dates bytes tokens script s (leb-true _ _ e) (shared_date (events_of script)) refl
-from_events bytes tokens script s false e = too_many_events tokens script s (leb-false _ _ e)
+    ∷ option_map (λ date. SameDate date) (shared_date (events_of script)) ∷ part_refusals script)) (trade_of script))
+from_events bytes tokens script s good' true e =
+    from_dates bytes tokens script (record { spells = s; schedules = good'; few_events = leb-true _ _ e }) (shared_date (events_of script)) refl
+from_events bytes tokens script s good' false e = too_many_events tokens script s good' (leb-false _ _ e)
+
+-- from its schedules
+from_schedules : (bytes : List ℕ) (tokens : List Token) (script : Script) → Spells bytes tokens script
+    → (found : Option ℕ) → first_bad 1 script ≡ found
+    → ScriptCause bytes (unless (first_of (option_map (λ item. BadSchedule item) found ∷ refusal_beyond Events event_limit (length (all_events script))
+    ∷ option_map (λ date. SameDate date) (shared_date (events_of script)) ∷ part_refusals script)) (trade_of script))
+from_schedules bytes tokens script s (Some item) e = bad_schedule tokens script item s e
+from_schedules bytes tokens script s None e =
+    from_events bytes tokens script s (none_bad 1 script e) (nat_le (length (all_events script)) event_limit) refl
 
 -- from the grammar
 from_grammar : (bytes : List ℕ) (tokens : List Token) → SpellsTokens bytes tokens → IsWithin tokens → (read : Option Script) → script_in (kinds tokens) ≡ read
     → ScriptCause bytes (parsed_input (judged None None read))
 from_grammar bytes tokens t within (Some script) e =
-    from_events bytes tokens script (record { spells_tokens = t; within = within; spells_script = script_is_spelled (kinds tokens) script e })
-    (nat_le (length script) event_limit) refl
+    let s : Spells bytes tokens script = record { spells_tokens = t; within = within; spells_script = script_is_spelled (kinds tokens) script e } in
+    subst (λ (refusals : List (Option Refusal)). ScriptCause bytes (unless (first_of refusals) (trade_of script))) (sym (own script))
+    (from_schedules bytes tokens script s (first_bad 1 script) refl)
 from_grammar bytes tokens t within None e =
     no_script tokens t within (λ script spelled. let read = spelled_script_is_read (kinds tokens) script spelled in absurd (let found : None ≡ Some script = sym e ∙ read in cc))
 
@@ -170,13 +185,20 @@ spelled_gives bytes tokens script s =
     let r = spelled_script_is_read (kinds tokens) script s.spells_script in
     rw (t, s.within.sizes, s.within.depths, r) refl
 
+-- the same, by the refusals in their order
+spelled_judged : (bytes : List ℕ) (tokens : List Token) (script : Script) → Spells bytes tokens script
+    → checked_script bytes ≡ unless (first_of (own_refusals script)) (trade_of script)
+spelled_judged bytes tokens script s =
+    spelled_gives bytes tokens script s ∙ ap (λ (refusals : List (Option Refusal)). unless (first_of refusals) (trade_of script)) (own script)
+
 -- a script that keeps its limits is accepted
-pub script_accepted : (bytes : List ℕ) (events : List Event) → IsScriptText bytes events → checked_script bytes ≡ good events
-script_accepted bytes events k =
+pub script_accepted : (bytes : List ℕ) (trade : Trade) → IsScriptText bytes trade → checked_script bytes ≡ good trade
+script_accepted bytes trade k =
+    let schedules = all_good 1 k.script k.schedules in
     let few = le-leb _ _ k.few_events in
-    let dates = none_found (map event_of k.script) (shared_date (events_of k.script)) refl k.dates in
-    let parts = none_refused (script_parts k.script) k.keeps in
-    spelled_gives bytes k.tokens k.script k.spells ∙ rw (few, dates, parts) (ap good k.ordered)
+    let dates = none_found (all_events k.script) (shared_date (events_of k.script)) refl k.dates in
+    let parts = none_refused k.script k.keeps in
+    spelled_judged bytes k.tokens k.script k.spells ∙ rw (schedules, few, dates, parts) (ap good k.has)
 
 -- and one with a fault is refused for it
 script_refused : (bytes : List ℕ) (refusal : Refusal) → IsScriptFault bytes refusal → checked_script bytes ≡ bad refusal
@@ -187,14 +209,15 @@ script_refused bytes _ (too_deep tokens t s large e) = rw (spelled_tokens_are_re
 script_refused bytes _ (no_script tokens s within none) =
     let r = none_read (kinds tokens) (script_in (kinds tokens)) refl none in
     rw (spelled_tokens_are_read bytes tokens s, within.sizes, within.depths, r) refl
-script_refused bytes _ (too_many_events tokens script s many) =
-    spelled_gives bytes tokens script s ∙ rw (beyond-leb _ _ many) refl
-script_refused bytes _ (same_date tokens script date s few earliest) =
-    let found = found_date (map event_of script) date (shared_date (events_of script)) refl earliest in
-    spelled_gives bytes tokens script s ∙ rw (le-leb _ _ few, found) refl
-script_refused bytes _ (too_many_parts tokens script refusal s few dates e) =
-    let none = none_found (map event_of script) (shared_date (events_of script)) refl dates in
-    spelled_gives bytes tokens script s ∙ rw (le-leb _ _ few, none, e) refl
+script_refused bytes _ (bad_schedule tokens script item s found) = spelled_judged bytes tokens script s ∙ rw found refl
+script_refused bytes _ (too_many_events tokens script s schedules many) =
+    spelled_judged bytes tokens script s ∙ rw (all_good 1 script schedules, beyond-leb _ _ many) refl
+script_refused bytes _ (same_date tokens script date s earliest) =
+    let found = found_date (all_events script) date (shared_date (events_of script)) refl earliest in
+    spelled_judged bytes tokens script s.spells ∙ rw (all_good 1 script s.schedules, le-leb _ _ s.few_events, found) refl
+script_refused bytes _ (too_many_parts tokens script refusal s dates e) =
+    let none = none_found (all_events script) (shared_date (events_of script)) refl dates in
+    spelled_judged bytes tokens script s.spells ∙ rw (all_good 1 script s.schedules, le-leb _ _ s.few_events, none, e) refl
 
 -- a text that is read as this table spells it
 from_table : (bytes : List ℕ) (read : Option Table) → scenarios_in bytes ≡ read → HasCause SpellsTable IsTableFault bytes (table_if read)
@@ -223,7 +246,7 @@ unfolding checked_table
 table_refused bytes _ (no_table none) = rw (none_table bytes (scenarios_in bytes) refl none) refl
 
 pub script_acceptance : ScriptAcceptanceHasCause
-script_acceptance bytes events = ((λ e. subst (ScriptCause bytes) e (script_cause bytes)), script_accepted bytes events)
+script_acceptance bytes trade = ((λ e. subst (ScriptCause bytes) e (script_cause bytes)), script_accepted bytes trade)
 
 pub script_refusal : ScriptRefusalHasCause
 script_refusal bytes refusal = ((λ e. subst (ScriptCause bytes) e (script_cause bytes)), script_refused bytes refusal)

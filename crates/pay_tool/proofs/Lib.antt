@@ -1,6 +1,5 @@
-pub mod NameSetLemmas
-pub mod LimitLemmas
-pub mod SortLemmas
+pub mod ItemLemmas
+pub mod Rolled
 pub mod ByteLemmas
 pub mod PieceLemmas
 pub mod ReaderLemmas

@@ -3,18 +3,19 @@ use Rattle.std.specs.Prelude.{ℕ, List, Option, Some, None, Result, Ok, Err}
 use Rattle.pay_edge.specs.Edge.{Files, Whole, Missing, Long, Bytes, whole_of}
 use Rattle.pay_lexer.specs.declared.token.Token.{Token}
 use Rattle.pay_lexer.specs.Lexing.{tokens_in}
-use Rattle.pay_meaning.specs.Language.{Event, Script}
-use Rattle.pay_meaning.specs.Events.{events_of}
+use Rattle.pay_meaning.specs.Language.{Script}
 use Rattle.pay_parser.specs.declared.parse_fault.ParseFault.{ParseFault}
 use Rattle.pay_parser.specs.declared.parse_fault.ParseFault.TheVariants as parsing
 use Rattle.pay_parser.specs.Parsing.{parsed}
+use Rattle.pay_roll.specs.Rolling.{first_of}
 use Rattle.pay_tool.specs.declared.refusal.Refusal.{Refusal}
 use Rattle.pay_tool.specs.declared.refusal.Refusal.TheVariants.{TooLong, BadByte, TooLarge, TooDeep, NotScript, NotTable}
-use Rattle.pay_tool.specs.Limits.{first_of, script_refusals}
+use Rattle.pay_tool.specs.Limits.{script_refusals}
+use Rattle.pay_tool.specs.Trades.{Trade, trade_of, check_text, events_text}
 use Rattle.pay_tool.specs.Tables.{Table}
 use Rattle.pay_tool.specs.TableReading.{scenarios_in}
 use Rattle.pay_tool.specs.Report.{report_text}
-use Rattle.pay_tool.specs.Requests.{Asked, run}
+use Rattle.pay_tool.specs.Requests.{Asked, run, check_of, list_of}
 
 -- an input: its file is not there, or it is refused, or it is accepted and gives a value
 pub data Input (A : Type 0) : Type 0 where
@@ -22,20 +23,20 @@ pub data Input (A : Type 0) : Type 0 where
   bad : Refusal → Input A
   good : A → Input A
 
--- a file as a whole, and then the check of its bytes
-abbrev pub input_of : {A : Type 0} → (List ℕ → Input A) → Whole → Input A
-input_of check Missing = not_there
-input_of check Long = bad TooLong
-input_of check (Bytes bytes) = check bytes
+-- a file as a whole, of at most so many bytes, and then the check of its bytes
+abbrev pub input_of : {A : Type 0} → ℕ → (List ℕ → Input A) → Whole → Input A
+input_of limit check Missing = not_there
+input_of limit check Long = bad (TooLong limit)
+input_of limit check (Bytes bytes) = check bytes
 
 -- a value, unless it is refused
 abbrev pub unless : {A : Type 0} → Option Refusal → A → Input A
 unless None value = good value
 unless (Some refusal) value = bad refusal
 
--- the events of a script in order of date, unless the script is refused for its events or its parts
-abbrev pub prepared : Script → Input (List Event)
-prepared script = unless (first_of (script_refusals script)) (events_of script)
+-- what a script has, unless it is refused for its schedules, its events or its names
+abbrev pub prepared : Script → Input Trade
+prepared script = unless (first_of (script_refusals script)) (trade_of script)
 
 -- why tokens spell no script within the limits of tokens
 abbrev pub refusal_of : ParseFault → Refusal
@@ -43,16 +44,16 @@ refusal_of (parsing.TooLarge at) = TooLarge at
 refusal_of (parsing.TooDeep at) = TooDeep at
 refusal_of fault = NotScript
 
-abbrev pub parsed_input : Result Script ParseFault → Input (List Event)
+abbrev pub parsed_input : Result Script ParseFault → Input Trade
 parsed_input (Err fault) = bad (refusal_of fault)
 parsed_input (Ok script) = prepared script
 
-abbrev pub lexed_input : Result (List Token) ℕ → Input (List Event)
+abbrev pub lexed_input : Result (List Token) ℕ → Input Trade
 lexed_input (Err place) = bad (BadByte place)
 lexed_input (Ok tokens) = parsed_input (parsed tokens)
 
--- the events of a script's text: its tokens are asked for, the limits of tokens, a script, and then its events and parts
-unfoldable pub checked_script : List ℕ → Input (List Event)
+-- what the script of a text has: its tokens are asked for, the limits of tokens, a script, and then its schedules, its events and its names
+unfoldable pub checked_script : List ℕ → Input Trade
 checked_script bytes = lexed_input (tokens_in bytes)
 
 abbrev pub table_if : Option Table → Input Table
@@ -70,11 +71,11 @@ script_limit = 1_048_576
 abbrev pub table_limit : ℕ
 table_limit = 67_108_864
 
-abbrev pub script_of : Files → List ℕ → Input (List Event)
-script_of files name = input_of checked_script (whole_of files name script_limit)
+abbrev pub script_of : Files → List ℕ → Input Trade
+script_of files name = input_of script_limit checked_script (whole_of files name script_limit)
 
 abbrev pub table_of : Files → List ℕ → Input Table
-table_of files name = input_of checked_table (whole_of files name table_limit)
+table_of files name = input_of table_limit checked_table (whole_of files name table_limit)
 
 -- The answer: the words are no request; or the first input that isn't accepted is this file, which isn't there;
 -- or it is this file, which is refused; or else a report with this text.
@@ -84,19 +85,27 @@ pub data Answer : Type 0 where
   refused : List ℕ → Refusal → Answer
   report : List ℕ → Answer
 
-abbrev pub run_table : List Event → List ℕ → Input Table → Answer
-run_table events name not_there = absent name
-run_table events name (bad refusal) = refused name refusal
-run_table events name (good table) = report (report_text events table)
+abbrev pub run_table : Trade → List ℕ → Input Table → Answer
+run_table trade name not_there = absent name
+run_table trade name (bad refusal) = refused name refusal
+run_table trade name (good table) = report (report_text trade.events table)
 
-abbrev pub run_script : List ℕ → Input (List Event) → List ℕ → Input Table → Answer
+abbrev pub run_script : List ℕ → Input Trade → List ℕ → Input Table → Answer
 run_script script not_there name table = absent script
 run_script script (bad refusal) name table = refused script refusal
-run_script script (good events) name table = run_table events name table
+run_script script (good trade) name table = run_table trade name table
 
--- the answer to a request: of the script file first, and then of the scenario file
+-- the answer about a script alone, with this text of what it has
+abbrev pub script_answer : (Trade → List ℕ) → List ℕ → Input Trade → Answer
+script_answer text name not_there = absent name
+script_answer text name (bad refusal) = refused name refusal
+script_answer text name (good trade) = report (text trade)
+
+-- the answer to a request: of the script file first, and for `run` then of the scenario file
 abbrev pub answer_to : Asked → Files → Answer
 answer_to (run script scenarios) files = run_script script (script_of files script) scenarios (table_of files scenarios)
+answer_to (check_of script) files = script_answer check_text script (script_of files script)
+answer_to (list_of script) files = script_answer events_text script (script_of files script)
 
 abbrev pub answer_of : Option Asked → Files → Answer
 answer_of None files = no_request

@@ -5,7 +5,7 @@ use Rattle.pay_edge.specs.Edge.{Files, Rose, appended, AppendsFront}
 use Rattle.pay_tool.specs.declared.refusal.Refusal.{Refusal}
 use Rattle.pay_tool.specs.declared.exit.Exit.{Exit}
 use Rattle.pay_tool.specs.declared.exit.Exit.TheVariants.{Done, NotRequest, Refused, Unread, Unwritten, NoMemory}
-use Rattle.pay_tool.specs.Requests.{Asked, run}
+use Rattle.pay_tool.specs.Requests.{Asked, run, check_of, list_of}
 use Rattle.pay_tool.specs.Answers.{Input, not_there, bad, good, script_of, table_of, Answer, no_request, absent, refused, report, answer_of}
 
 -- an input is there and was not refused
@@ -18,6 +18,8 @@ is_accepted (good value) = true
 abbrev pub inputs_of : Asked → List (List ℕ × (Files → Bool))
 inputs_of (run script scenarios) =
     (script, λ files. is_accepted (script_of files script)) ∷ (scenarios, λ files. is_accepted (table_of files scenarios)) ∷ []
+inputs_of (check_of script) = (script, λ files. is_accepted (script_of files script)) ∷ []
+inputs_of (list_of script) = (script, λ files. is_accepted (script_of files script)) ∷ []
 
 -- the count of an input's name rose, and where the files are told each input before it is accepted
 abbrev pub RoseAmong : List (List ℕ × (Files → Bool)) → Option Files → (List ℕ → ℕ) → (List ℕ → ℕ) → Type 0
@@ -57,12 +59,12 @@ IsRefused (absent name) = ⊥
 IsRefused (refused name refusal) = Unit {0}
 IsRefused (report text) = ⊥
 
--- the answer is an input that is refused for this reason
-abbrev pub IsRefusedFor : Refusal → Answer → Type 0
-IsRefusedFor reason no_request = ⊥
-IsRefusedFor reason (absent name) = ⊥
-IsRefusedFor reason (refused name refusal) = refusal ≡ reason
-IsRefusedFor reason (report text) = ⊥
+-- the answer is the input of this name, refused for this reason
+abbrev pub IsRefusedFor : List ℕ → Refusal → Answer → Type 0
+IsRefusedFor named reason no_request = ⊥
+IsRefusedFor named reason (absent name) = ⊥
+IsRefusedFor named reason (refused name refusal) = (name ≡ named) × (refusal ≡ reason)
+IsRefusedFor named reason (report text) = ⊥
 
 -- the answer is an input whose file is not there
 abbrev pub IsAbsentInput : Answer → Type 0
@@ -70,6 +72,38 @@ IsAbsentInput no_request = ⊥
 IsAbsentInput (absent name) = Unit {0}
 IsAbsentInput (refused name refusal) = ⊥
 IsAbsentInput (report text) = ⊥
+
+-- the answer is the input of this name, whose file is not there
+abbrev pub IsAbsentAt : List ℕ → Answer → Type 0
+IsAbsentAt named no_request = ⊥
+IsAbsentAt named (absent name) = name ≡ named
+IsAbsentAt named (refused name refusal) = ⊥
+IsAbsentAt named (report text) = ⊥
+
+-- one of these inputs has the name
+abbrev pub IsNamed : List (List ℕ × (Files → Bool)) → List ℕ → Type 0
+IsNamed [] name = ⊥
+IsNamed (input ∷ inputs) name = (name ≡ input.0) ⊎ IsNamed inputs name
+
+-- an input of the request has the name
+abbrev pub IsInputName : Option Asked → List ℕ → Type 0
+IsInputName None name = ⊥
+IsInputName (Some asked) name = IsNamed (inputs_of asked) name
+
+-- the input of this name is one whose count rose, and where the files are told each input before it is accepted
+abbrev pub RoseAt : List (List ℕ × (Files → Bool)) → Option Files → (List ℕ → ℕ) → (List ℕ → ℕ) → List ℕ → Type 0
+RoseAt [] told before now name = ⊥
+RoseAt (input ∷ inputs) told before now name =
+    ((name ≡ input.0) × Rose (before name) (now name)) ⊎ (IfSome told (λ files. IsTrue (input.1 files)) × RoseAt inputs told before now name)
+
+abbrev pub ReadFaultAt : Option Asked → Option Files → (List ℕ → ℕ) → (List ℕ → ℕ) → List ℕ → Type 0
+ReadFaultAt None told before now name = ⊥
+ReadFaultAt (Some asked) told before now name = RoseAt (inputs_of asked) told before now name
+
+-- the input of this name could not be read: its count rose, or the answer is that its file is not there
+abbrev pub IsUnread : Option Asked → Option Files → (List ℕ → ℕ) → (List ℕ → ℕ) → List ℕ → Type 0
+IsUnread asked told before now name =
+    ReadFaultAt asked told before now name ⊎ IsSomeAnd told (λ files. IsAbsentAt name (answer_of asked files))
 
 -- the answer is a report
 abbrev pub IsReport : Answer → Type 0
@@ -118,9 +152,9 @@ ends_of files reads text faults depot depot' out out' = record {
 abbrev pub Caused : Option Asked → Ends → Exit → Type 0
 Caused asked ends Done = IsSome asked × IfSome ends.files (λ files. IsGiven (answer_of asked files) ends.text ends.text')
 Caused asked ends NotRequest = asked ≡ None
-Caused asked ends (Refused refusal) = IsSome asked × IfSome ends.files (λ files. IsRefusedFor refusal (answer_of asked files))
-Caused asked ends Unread =
-    IsSome asked × (ReadFault asked ends.files ends.reads ends.reads' ⊎ IsSomeAnd ends.files (λ files. IsAbsentInput (answer_of asked files)))
+Caused asked ends (Refused name refusal) =
+    IsSome asked × IsInputName asked name × IfSome ends.files (λ files. IsRefusedFor name refusal (answer_of asked files))
+Caused asked ends (Unread name) = IsSome asked × IsUnread asked ends.files ends.reads ends.reads' name
 Caused asked ends Unwritten =
     IsSome asked × Rose ends.faults ends.faults'
     × IfSome ends.files (λ files. IsReport (answer_of asked files) × IsTextBegun (answer_of asked files) ends.text ends.text')
@@ -130,7 +164,7 @@ Caused asked ends NoMemory = IsSome asked × IfSome ends.files (λ files. IsText
 abbrev pub IsEarly : Exit → Type 0
 IsEarly Done = ⊥
 IsEarly NotRequest = Unit {0}
-IsEarly (Refused refusal) = Unit {0}
-IsEarly Unread = Unit {0}
+IsEarly (Refused name refusal) = Unit {0}
+IsEarly (Unread name) = Unit {0}
 IsEarly Unwritten = ⊥
 IsEarly NoMemory = ⊥

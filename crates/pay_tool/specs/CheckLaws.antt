@@ -1,18 +1,19 @@
 -- When a script or a table is accepted, and why it is refused, in the words of the grammar.
-use Rattle.std.specs.Prelude.{◌≡◌, ◌↔◌, ℕ, ℤ, ◌≤◌, ◌<◌, List, length, map, Option, Some, None}
+use Rattle.std.specs.Prelude.{◌≡◌, ◌↔◌, ℕ, ℤ, ◌≤◌, ◌<◌, List, length, Some, None}
 use Rattle.pay_dates.specs.declared.day.Day.{Day}
 use Rattle.pay_lexer.specs.declared.token.Token.{Token}
 use Rattle.pay_lexer.specs.Spelling.{SpellsTokens, IsBadPlace}
 use Rattle.pay_lexer.specs.Lexing.{kinds}
-use Rattle.pay_meaning.specs.Language.{Event, Script}
-use Rattle.pay_meaning.specs.Events.{event_of, events_of, IsShared, IsEarliestShared}
-use Rattle.pay_meaning.specs.Parts.{script_parts}
+use Rattle.pay_meaning.specs.Language.{Script}
+use Rattle.pay_meaning.specs.Events.{all_events, IsShared, IsEarliestShared}
 use Rattle.pay_parser.specs.Grammar.{SpellsScript}
 use Rattle.pay_parser.specs.TokenLimits.{first_too_large, first_too_deep, IsWithin}
+use Rattle.pay_roll.specs.declared.refusal.What.TheVariants.{Events}
+use Rattle.pay_roll.specs.Rolling.{first_bad, first_of}
 use Rattle.pay_tool.specs.declared.refusal.Refusal.{Refusal}
-use Rattle.pay_tool.specs.declared.refusal.Refusal.TheVariants.{BadByte, TooLarge, TooDeep, NotScript, SameDate, TooMany, NotTable}
-use Rattle.pay_tool.specs.declared.refusal.What.TheVariants.{Events}
-use Rattle.pay_tool.specs.Limits.{event_limit, first_of, part_refusals, KeepsLimits}
+use Rattle.pay_tool.specs.declared.refusal.Refusal.TheVariants.{BadByte, TooLarge, TooDeep, NotScript, BadSchedule, SameDate, TooMany, NotTable}
+use Rattle.pay_tool.specs.Limits.{event_limit, HasGoodSchedules, part_refusals, KeepsLimits}
+use Rattle.pay_tool.specs.Trades.{Trade, trade_of}
 use Rattle.pay_tool.specs.Tables.{Table, SpellsTable}
 use Rattle.pay_tool.specs.Answers.{bad, good, checked_script, checked_table}
 
@@ -24,20 +25,28 @@ pub record Spells (bytes : List ℕ) (tokens : List Token) (script : Script) : T
 
 -- no two events of a script have one date
 abbrev pub HasDistinctDates : Script → Type 0
-HasDistinctDates script = (number : ℤ) → ¬ IsShared number (map event_of script)
+HasDistinctDates script = (number : ℤ) → ¬ IsShared number (all_events script)
 
--- a text spells a script that keeps its limits, no two of whose events have one date; and these are its events in order
-pub record IsScriptText (bytes : List ℕ) (events : List Event) : Type 0 where
+-- a text spells a script none of whose schedules is bad, that keeps its limits, and no two of whose events have one date; and this is what it has
+pub record IsScriptText (bytes : List ℕ) (trade : Trade) : Type 0 where
   pub tokens : List Token
   pub script : Script
   pub spells : Spells bytes tokens script
-  pub few_events : length script ≤ event_limit
+  pub schedules : HasGoodSchedules script
+  pub few_events : length (all_events script) ≤ event_limit
   pub dates : HasDistinctDates script
-  pub keeps : KeepsLimits (script_parts script)
-  pub ordered : events_of script ≡ events
+  pub keeps : KeepsLimits script
+  pub has : trade_of script ≡ trade
+
+-- a text spells these tokens and this script, none of whose schedules is bad, and which has not too many events
+pub record SpellsFew (bytes : List ℕ) (tokens : List Token) (script : Script) : Type 0 where
+  pub spells : Spells bytes tokens script
+  pub schedules : HasGoodSchedules script
+  pub few_events : length (all_events script) ≤ event_limit
 
 -- Why a text is refused as a script: the first place where nothing begins; the first token that is too large, or else the first that is too deep;
--- or no script is spelled; or else too many events; or else the earliest date that two of them have; or else too many parts.
+-- or no script is spelled; or else the first bad schedule; or else too many events; or else the earliest date that two of them have; or else too
+-- many parts of its events, or names.
 pub data IsScriptFault (bytes : List ℕ) : Refusal → Type 0 where
   bad_byte : (place : ℕ) → IsBadPlace bytes place → IsScriptFault bytes (BadByte place)
   too_large : (tokens : List Token) (t : Token) → SpellsTokens bytes tokens → first_too_large tokens ≡ Some t → IsScriptFault bytes (TooLarge t.start)
@@ -45,16 +54,18 @@ pub data IsScriptFault (bytes : List ℕ) : Refusal → Type 0 where
       → IsScriptFault bytes (TooDeep t.start)
   no_script : (tokens : List Token) → SpellsTokens bytes tokens → IsWithin tokens → ((script : Script) → ¬ SpellsScript (kinds tokens) script)
       → IsScriptFault bytes NotScript
-  too_many_events : (tokens : List Token) (script : Script) → Spells bytes tokens script → event_limit < length script
-      → IsScriptFault bytes (TooMany Events event_limit)
-  same_date : (tokens : List Token) (script : Script) (date : Day) → Spells bytes tokens script → length script ≤ event_limit
-      → IsEarliestShared (map event_of script) date → IsScriptFault bytes (SameDate date)
-  too_many_parts : (tokens : List Token) (script : Script) (refusal : Refusal) → Spells bytes tokens script → length script ≤ event_limit
-      → HasDistinctDates script → first_of (part_refusals (script_parts script)) ≡ Some refusal → IsScriptFault bytes refusal
+  bad_schedule : (tokens : List Token) (script : Script) (item : ℕ) → Spells bytes tokens script → first_bad 1 script ≡ Some item
+      → IsScriptFault bytes (BadSchedule item)
+  too_many_events : (tokens : List Token) (script : Script) → Spells bytes tokens script → HasGoodSchedules script
+      → event_limit < length (all_events script) → IsScriptFault bytes (TooMany Events event_limit)
+  same_date : (tokens : List Token) (script : Script) (date : Day) → SpellsFew bytes tokens script → IsEarliestShared (all_events script) date
+      → IsScriptFault bytes (SameDate date)
+  too_many_parts : (tokens : List Token) (script : Script) (refusal : Refusal) → SpellsFew bytes tokens script → HasDistinctDates script
+      → first_of (part_refusals script) ≡ Some refusal → IsScriptFault bytes refusal
 
--- a script's text is accepted exactly where it spells a script that keeps its limits, and gives that script's events
+-- a script's text is accepted exactly where it spells a script that is not refused, and gives what that script has
 abbrev pub ScriptAcceptanceHasCause : Type 0
-ScriptAcceptanceHasCause = (bytes : List ℕ) (events : List Event) → (checked_script bytes ≡ good events) ↔ IsScriptText bytes events
+ScriptAcceptanceHasCause = (bytes : List ℕ) (trade : Trade) → (checked_script bytes ≡ good trade) ↔ IsScriptText bytes trade
 
 -- a script's text is refused exactly for its fault
 abbrev pub ScriptRefusalHasCause : Type 0

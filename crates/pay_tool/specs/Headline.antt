@@ -1,26 +1,32 @@
 -- The headline: what was written is what the script means in each scenario.
-use Rattle.std.specs.Prelude.{◌≡◌, ◌≤◌, ℕ, ℤ, List, length, ◌++◌, map, Some}
+use Rattle.std.specs.Prelude.{◌≡◌, ◌≤◌, ℕ, ℤ, List, length, ◌++◌, Option, Some, None}
 use Rattle.std.specs.List.{flat_map}
 use Rattle.std.specs.FinMap.{get}
 use Rattle.pay_edge.specs.Edge.{Files}
 use Rattle.pay_meaning.specs.Language.{Script}
 use Rattle.pay_meaning.specs.Meaning.{meaning, no_variables, fixings_of}
-use Rattle.pay_meaning.specs.Events.{event_of, events_of, IsShared}
-use Rattle.pay_meaning.specs.Parts.{script_parts}
+use Rattle.pay_meaning.specs.Events.{all_events, events_of, IsShared}
 use Rattle.pay_lexer.specs.declared.token.Token.{Token}
 use Rattle.pay_lexer.specs.Spelling.{SpellsTokens}
 use Rattle.pay_lexer.specs.Lexing.{kinds}
 use Rattle.pay_parser.specs.Grammar.{SpellsScript}
 use Rattle.pay_parser.specs.TokenLimits.{IsWithin}
-use Rattle.pay_tool.specs.Limits.{event_limit, KeepsLimits}
+use Rattle.pay_tool.specs.Limits.{event_limit, HasGoodSchedules, KeepsLimits}
 use Rattle.pay_tool.specs.Tables.{Table, SpellsTable}
 use Rattle.pay_tool.specs.Report.{header_line, last_line, scenario_lines}
-use Rattle.pay_tool.specs.Requests.{run, request_of}
+use Rattle.pay_tool.specs.Requests.{Asked, run, check_of, list_of, request_of}
 use Rattle.pay_tool.specs.Answers.{script_limit, table_limit}
 
--- The words ask for a run of two files. The bytes of the first spell tokens that spell a script, no two of whose events have one date.
--- The bytes of the second spell a table. The text has gained a header, for each row of the table in order the lines of what the
--- script's events mean under the fixings of that row, from no variables, and a last line.
+-- the words ask for a run
+abbrev pub AsksRun : Option Asked → Type 0
+AsksRun None = ⊥
+AsksRun (Some (run script scenarios)) = Unit {0}
+AsksRun (Some (check_of script)) = ⊥
+AsksRun (Some (list_of script)) = ⊥
+
+-- The words ask for a run of two files. The bytes of the first spell tokens that spell a script none of whose schedules is bad, and no two of
+-- whose events have one date. The bytes of the second spell a table. The text has gained a header, for each row of the table in order the lines
+-- of what the script's events mean under the fixings of that row, from no variables, and a last line.
 pub record PaysAsMeant (words : List (List ℕ)) (files : Files) (before after : List ℕ) : Type 0 where
   pub script_name : List ℕ
   pub table_name : List ℕ
@@ -33,14 +39,16 @@ pub record PaysAsMeant (words : List (List ℕ)) (files : Files) (before after :
   pub spells_tokens : SpellsTokens script_bytes tokens
   pub script : Script
   pub spells_script : SpellsScript (kinds tokens) script
-  pub dates : (number : ℤ) → ¬ IsShared number (map event_of script)
+  pub schedules : HasGoodSchedules script
+  pub dates : (number : ℤ) → ¬ IsShared number (all_events script)
   pub table : Table
   pub spells_table : SpellsTable table_bytes table
   pub text : after ≡ before ++ (header_line
       ++ (flat_map (λ row. scenario_lines row.label (meaning (events_of script) no_variables (fixings_of table.dates row.cells))) table.rows ++ last_line))
 
 -- The words ask for a run of two files, neither of which is too long. The bytes of the first spell tokens none of which passes a limit, and
--- which spell a script that keeps its limits, no two of whose events have one date. The bytes of the second spell a table.
+-- which spell a script none of whose schedules is bad, that keeps its limits, and no two of whose events have one date. The bytes of the second
+-- spell a table.
 pub record IsPayable (words : List (List ℕ)) (files : Files) : Type 0 where
   pub script_name : List ℕ
   pub table_name : List ℕ
@@ -56,8 +64,9 @@ pub record IsPayable (words : List (List ℕ)) (files : Files) : Type 0 where
   pub within : IsWithin tokens
   pub script : Script
   pub spells_script : SpellsScript (kinds tokens) script
-  pub few_events : length script ≤ event_limit
-  pub keeps : KeepsLimits (script_parts script)
-  pub dates : (number : ℤ) → ¬ IsShared number (map event_of script)
+  pub schedules : HasGoodSchedules script
+  pub few_events : length (all_events script) ≤ event_limit
+  pub keeps : KeepsLimits script
+  pub dates : (number : ℤ) → ¬ IsShared number (all_events script)
   pub table : Table
   pub spells_table : SpellsTable table_bytes table

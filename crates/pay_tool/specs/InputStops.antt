@@ -19,12 +19,12 @@ StopsAt told input before now (Refused refusal) = IfSome told (λ files. input f
 StopsAt told input before now Unread = Rose before now ⊎ IsSomeAnd told (λ files. input files ≡ not_there)
 StopsAt told input before now NoMemory = Unit {0}
 
--- the stop of a file that was not read as a whole
-abbrev pub stop_of_file : WholeFault → InputStop
-stop_of_file whole.Absent = Unread
-stop_of_file whole.Failed = Unread
-stop_of_file whole.TooLong = Refused TooLong
-stop_of_file whole.NoMemory = NoMemory
+-- the stop of a file of at most so many bytes that was not read as a whole
+abbrev pub stop_of_file : ℕ → WholeFault → InputStop
+stop_of_file limit whole.Absent = Unread
+stop_of_file limit whole.Failed = Unread
+stop_of_file limit whole.TooLong = Refused (TooLong limit)
+stop_of_file limit whole.NoMemory = NoMemory
 
 -- the stop of a script that was not accepted
 abbrev pub stop_of_script : CheckStop → InputStop

@@ -1,13 +1,15 @@
 -- A request of the code as plain data, and why words are none.
 use Rattle.std.specs.Prelude.{◌≡◌, ℕ, List, true, false, Option, None, IsSome}
 use Rattle.pay_tool.specs.declared.request.Request.{Request}
-use Rattle.pay_tool.specs.declared.request.Request.TheVariants.{Run}
+use Rattle.pay_tool.specs.declared.request.Request.TheVariants.{Run, Check, Events}
 use Rattle.pay_tool.specs.declared.request.WordsFault.{WordsFault}
 use Rattle.pay_tool.specs.declared.request.WordsFault.TheVariants.{NotRequest, NoMemory}
-use Rattle.pay_tool.specs.Requests.{Asked, run, is_file_name}
+use Rattle.pay_tool.specs.Requests.{Asked, run, check_of, list_of, is_file_name}
 
 abbrev pub asked_by : Request → Asked
 asked_by (Run words) = run words.script words.scenarios
+asked_by (Check script) = check_of script
+asked_by (Events script) = list_of script
 
 -- words that ask for nothing are no request; memory is wanted only where they ask for something
 abbrev pub StopsWords : Option Asked → WordsFault → Type 0

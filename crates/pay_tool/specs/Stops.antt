@@ -4,10 +4,12 @@ use Rattle.pay_lexer.specs.declared.fault.LexFault.{LexFault}
 use Rattle.pay_lexer.specs.declared.fault.LexFault.TheVariants as lexing
 use Rattle.pay_parser.specs.declared.parse_fault.ParseFault.{ParseFault}
 use Rattle.pay_parser.specs.declared.parse_fault.ParseFault.TheVariants as parsing
+use Rattle.pay_roll.specs.declared.refusal.RollRefusal.{RollRefusal}
+use Rattle.pay_roll.specs.declared.refusal.RollRefusal.TheVariants as rolling
 use Rattle.pay_tool.specs.declared.script.CheckStop.{CheckStop}
 use Rattle.pay_tool.specs.declared.script.CheckStop.TheVariants.{Refused, NoMemory}
 use Rattle.pay_tool.specs.declared.refusal.Refusal.{Refusal}
-use Rattle.pay_tool.specs.declared.refusal.Refusal.TheVariants.{BadByte, TooLarge, TooDeep, NotScript}
+use Rattle.pay_tool.specs.declared.refusal.Refusal.TheVariants.{BadByte, TooLarge, TooDeep, NotScript, BadSchedule, SameDate, TooMany}
 use Rattle.pay_tool.specs.Answers.{Input, bad, checked_script}
 
 -- the stop of a text that was not cut into tokens
@@ -21,6 +23,13 @@ stop_of_parsing (parsing.TooLarge at) = Refused (TooLarge at)
 stop_of_parsing (parsing.TooDeep at) = Refused (TooDeep at)
 stop_of_parsing parsing.NotScript = Refused NotScript
 stop_of_parsing parsing.NoMemory = NoMemory
+
+-- the stop of a script that has no events
+abbrev pub stop_of_rolling : RollRefusal → CheckStop
+stop_of_rolling (rolling.BadSchedule item) = Refused (BadSchedule item)
+stop_of_rolling (rolling.SameDate date) = Refused (SameDate date)
+stop_of_rolling (rolling.TooMany what limit) = Refused (TooMany what limit)
+stop_of_rolling rolling.NoMemory = NoMemory
 
 -- an input is refused for this reason; of want of memory nothing is said
 abbrev pub Stops : {A : Type 0} → Input A → CheckStop → Type 0

@@ -2,12 +2,12 @@
 use Rattle.std.specs.Prelude.{◌≡◌, ℕ, ◌≤◌, ◌<◌, List, length, Option, Some, None}
 use Rattle.std.specs.FinMap.{get}
 use Rattle.pay_edge.specs.Edge.{Files}
-use Rattle.pay_meaning.specs.Language.{Event}
 use Rattle.pay_tool.specs.declared.refusal.Refusal.{Refusal}
 use Rattle.pay_tool.specs.declared.refusal.Refusal.TheVariants.{TooLong}
 use Rattle.pay_tool.specs.Tables.{Table, SpellsTable}
+use Rattle.pay_tool.specs.Trades.{Trade, check_text, events_text}
 use Rattle.pay_tool.specs.Report.{report_text}
-use Rattle.pay_tool.specs.Requests.{run, request_of}
+use Rattle.pay_tool.specs.Requests.{run, check_of, list_of, request_of}
 use Rattle.pay_tool.specs.Answers.{Input, not_there, bad, good, script_limit, table_limit, Answer, no_request, absent, refused, report, answer_of}
 use Rattle.pay_tool.specs.CheckLaws.{IsScriptText, IsScriptFault, IsTableFault}
 
@@ -16,32 +16,44 @@ use Rattle.pay_tool.specs.CheckLaws.{IsScriptText, IsScriptFault, IsTableFault}
 pub data IsInput {A : Type 0} (Gives : List ℕ → A → Type 0) (HasFault : List ℕ → Refusal → Type 0)
     (limit : ℕ) (file : Option (List ℕ)) : Input A → Type 0 where
   no_file : file ≡ None → IsInput Gives HasFault limit file not_there
-  too_long : (bytes : List ℕ) → file ≡ Some bytes → limit < length bytes → IsInput Gives HasFault limit file (bad TooLong)
+  too_long : (bytes : List ℕ) → file ≡ Some bytes → limit < length bytes → IsInput Gives HasFault limit file (bad (TooLong limit))
   with_fault : (bytes : List ℕ) (refusal : Refusal) → file ≡ Some bytes → length bytes ≤ limit → HasFault bytes refusal
       → IsInput Gives HasFault limit file (bad refusal)
   with_value : (bytes : List ℕ) (value : A) → file ≡ Some bytes → length bytes ≤ limit → Gives bytes value → IsInput Gives HasFault limit file (good value)
 
 -- the file of this name as a script, and as a table
-abbrev pub IsScriptInput : Files → List ℕ → Input (List Event) → Type 0
+abbrev pub IsScriptInput : Files → List ℕ → Input Trade → Type 0
 IsScriptInput files name input = IsInput IsScriptText IsScriptFault script_limit (get files name) input
 
 abbrev pub IsTableInput : Files → List ℕ → Input Table → Type 0
 IsTableInput files name input = IsInput SpellsTable IsTableFault table_limit (get files name) input
 
+-- the words ask about the script of this name, with this text of what it has
+pub data AsksAbout (words : List (List ℕ)) : List ℕ → (Trade → List ℕ) → Type 0 where
+  about_counts : (script : List ℕ) → request_of words ≡ Some (check_of script) → AsksAbout words script check_text
+  about_events : (script : List ℕ) → request_of words ≡ Some (list_of script) → AsksAbout words script events_text
+
 -- The words are no request; or they ask for a run, and its script is not there, or is refused; or it is accepted, and the scenarios are not
--- there, or are refused; or both are accepted, and the answer is their report.
+-- there, or are refused; or both are accepted, and the answer is their report. Or they ask about a script, which is not there, or is refused, or is
+-- accepted, and the answer is the text of what it has.
 pub data IsAnswer (words : List (List ℕ)) (files : Files) : Answer → Type 0 where
   without_request : request_of words ≡ None → IsAnswer words files no_request
   script_absent : (script scenarios : List ℕ) → request_of words ≡ Some (run script scenarios) → IsScriptInput files script not_there
       → IsAnswer words files (absent script)
   script_refused : (script scenarios : List ℕ) (refusal : Refusal) → request_of words ≡ Some (run script scenarios)
       → IsScriptInput files script (bad refusal) → IsAnswer words files (refused script refusal)
-  scenarios_absent : (script scenarios : List ℕ) (events : List Event) → request_of words ≡ Some (run script scenarios)
-      → IsScriptInput files script (good events) → IsTableInput files scenarios not_there → IsAnswer words files (absent scenarios)
-  scenarios_refused : (script scenarios : List ℕ) (events : List Event) (refusal : Refusal) → request_of words ≡ Some (run script scenarios)
-      → IsScriptInput files script (good events) → IsTableInput files scenarios (bad refusal) → IsAnswer words files (refused scenarios refusal)
-  accepted : (script scenarios : List ℕ) (events : List Event) (table : Table) → request_of words ≡ Some (run script scenarios)
-      → IsScriptInput files script (good events) → IsTableInput files scenarios (good table) → IsAnswer words files (report (report_text events table))
+  scenarios_absent : (script scenarios : List ℕ) (trade : Trade) → request_of words ≡ Some (run script scenarios)
+      → IsScriptInput files script (good trade) → IsTableInput files scenarios not_there → IsAnswer words files (absent scenarios)
+  scenarios_refused : (script scenarios : List ℕ) (trade : Trade) (refusal : Refusal) → request_of words ≡ Some (run script scenarios)
+      → IsScriptInput files script (good trade) → IsTableInput files scenarios (bad refusal) → IsAnswer words files (refused scenarios refusal)
+  accepted : (script scenarios : List ℕ) (trade : Trade) (table : Table) → request_of words ≡ Some (run script scenarios)
+      → IsScriptInput files script (good trade) → IsTableInput files scenarios (good table) → IsAnswer words files (report (report_text trade.events table))
+  about_absent : (script : List ℕ) (text : Trade → List ℕ) → AsksAbout words script text → IsScriptInput files script not_there
+      → IsAnswer words files (absent script)
+  about_refused : (script : List ℕ) (text : Trade → List ℕ) (refusal : Refusal) → AsksAbout words script text
+      → IsScriptInput files script (bad refusal) → IsAnswer words files (refused script refusal)
+  about_accepted : (script : List ℕ) (text : Trade → List ℕ) (trade : Trade) → AsksAbout words script text
+      → IsScriptInput files script (good trade) → IsAnswer words files (report (text trade))
 
 -- this is an answer, and there is no other
 pub record IsOnlyAnswer (words : List (List ℕ)) (files : Files) (answer : Answer) : Type 0 where

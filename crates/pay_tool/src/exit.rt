@@ -1,41 +1,38 @@
 //! How the tool ended.
 
 ghost use Rattle.std.specs.Prelude.{◌≡◌};
-ghost use Rattle.pay_tool.specs.Exits.{status_of};
+ghost use Rattle.pay_tool.specs.Exits.{exit_at, status_of};
 
+use crate::file_name::FileName;
 use crate::input::InputStop;
 use crate::put::PutStop;
 use crate::refusal::Refusal;
 
 /// How the tool ended.
-#[derive(Clone, Copy, PartialEq, Eq, Debug)]
+#[derive(Drop)]
 pub enum Exit {
     /// The whole answer was given.
     Done,
     /// The words are no request.
     NotRequest,
-    /// An input is refused.
-    Refused(Refusal),
-    /// An input could not be read, or its file is not there.
-    Unread,
+    /// The input of this name is refused.
+    Refused(FileName, Refusal),
+    /// The input of this name could not be read, or its file is not there.
+    Unread(FileName),
     /// The answer could not be put.
     Unwritten,
     /// There was no memory.
     NoMemory,
 }
 
-impl From<InputStop> for Exit {
-    ghost use Rattle.std.specs.Prelude.{◌≡◌};
-    ghost use Rattle.pay_tool.specs.Exits.{exit_at};
-
-    ghost from_gives = { λ stop exit. exit ≡ exit_at stop };
-
-    fn from(stop: InputStop) -> Exit {
-        match stop {
-            InputStop::Refused(refusal) => Exit::Refused(refusal),
-            InputStop::Unread => Exit::Unread,
-            InputStop::NoMemory => Exit::NoMemory,
-        }
+/// The exit of a request that stopped at the input of this name.
+pub fn exit_at(name: FileName, stop: InputStop) -> Exit
+    ensures { result ≡ exit_at name stop }
+{
+    match stop {
+        InputStop::Refused(refusal) => Exit::Refused(name, refusal),
+        InputStop::Unread => Exit::Unread(name),
+        InputStop::NoMemory => Exit::NoMemory,
     }
 }
 
@@ -54,14 +51,14 @@ impl From<PutStop> for Exit {
 }
 
 /// The exit status: 0, or 2 to 6.
-pub fn status_of(exit: Exit) -> u8
-    ensures { result ≡ status_of exit }
+pub fn status_of(exit: &Exit) -> u8
+    ensures { result ≡ status_of exit.now }
 {
     match exit {
         Exit::Done => 0,
         Exit::NotRequest => 2,
-        Exit::Refused(_) => 3,
-        Exit::Unread => 4,
+        Exit::Refused(_, _) => 3,
+        Exit::Unread(_) => 4,
         Exit::Unwritten => 5,
         Exit::NoMemory => 6,
     }

@@ -8,14 +8,14 @@ pub fn one_answer()
     ensures { OneAnswer }
 {}
 
-/// A script's text is accepted exactly where it spells a script that keeps its limits, no two of whose events have one
-/// date, and gives that script's events in order.
+/// A script's text is accepted exactly where it spells a script none of whose schedules is bad, that keeps its limits, and no two
+/// of whose events have one date, and gives what that script has.
 pub fn script_acceptance_has_cause()
     ensures { ScriptAcceptanceHasCause }
 {}
 
 /// A script's text is refused exactly for its fault: the first place where nothing begins, the first token that passes a
-/// limit, no script, too many events, the earliest date that two of them have, or too many parts.
+/// limit, no script, the first bad schedule, too many events, the earliest date that two of them have, or too many parts or names.
 pub fn script_refusal_has_cause()
     ensures { ScriptRefusalHasCause }
 {}

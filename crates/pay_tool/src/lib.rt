@@ -1,8 +1,9 @@
 //! The tool: what the words of a command line ask for, done over a depot of files and a sink of text.
 //!
 //! `run_tool` is the whole of it. It reads the request, fetches each file whole and checks it, and only then puts the
-//! report, piece by piece. Its contract says of each exit status but 6, want of memory, why it comes. The clause `pays_as_meant` says that a run
-//! with status 0 has put, for each scenario in the order of its file, the payments that the script means there.
+//! answer: that of `run` piece by piece, those of `check` and `events` in one piece. Its contract says of each exit status
+//! but 6, want of memory, why it comes. The clause `pays_as_meant` says that a `run` with status 0 has put, for each scenario
+//! in the order of its file, the payments that the script means there.
 //!
 //! # Example
 //!
@@ -19,18 +20,16 @@
 //! ```
 #![tactic(auto)]
 
+mod about;
 mod aligned;
 mod columns;
-mod events;
 mod exit;
 mod file_name;
 mod input;
 mod label;
 pub mod laws;
-mod limits;
-mod names;
+mod line;
 mod outcome;
-mod parts;
 mod prepare;
 mod put;
 mod refusal;
@@ -41,13 +40,17 @@ mod scenarios;
 mod script;
 pub mod table_laws;
 mod table_reader;
+mod text;
 mod tool;
 mod value;
 mod variables;
 mod walker;
 
 pub use file_name::FileName;
-pub use refusal::{Refusal, What};
+pub use line::{MEMORY_LINE, WORDS_LINE};
+pub use pay_roll::What;
+pub use prepare::Trade;
+pub use refusal::Refusal;
 pub use request::{Request, RunWords, WordsFault, request_of_words};
 pub use script::{CheckStop, check_script};
 pub use tool::run_tool;

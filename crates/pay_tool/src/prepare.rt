@@ -1,35 +1,67 @@
-//! A script's events in order of date, and the limits of its events and parts.
+//! What a script has: its variables, its legs and its events, within their limits.
 
-ghost use Rattle.std.specs.Prelude.{◌≡◌, IfOk, IfErr, map};
+ghost use Rattle.std.specs.Prelude.{◌≡◌, ◌<◌, ◌^◌, nat_le, true, IfOk, IfErr, OnOk, length};
 ghost use Rattle.pay_tree.specs.Views as view;
 ghost use Rattle.pay_tool.specs.Answers.{good, prepared};
-ghost use Rattle.pay_tool.specs.Stops.{Stops};
+ghost use Rattle.pay_tool.specs.Stops.{Stops, StopsFor};
+ghost use Rattle.pay_tool.specs.Limits.{refusal_beyond};
+ghost use Rattle.pay_tool.specs.TradeViews.{trade};
 
-use crate::events::events_in_order;
-use crate::limits::{MOST_EVENTS, counts_of, refusal_beyond};
-use crate::refusal::What;
+use crate::refusal::Refusal;
 use crate::script::CheckStop;
-use pay_tree::{NamedEvent, Script};
+use pay_roll::{What, roll};
+use pay_tree::{Name, NamedEvent, Script, legs, variables};
 use std::alloc::Global;
 
-/// The events of a script in order of date.
+/// The most different variables.
+const MOST_VARIABLES: u32 = 1_024;
+
+/// The most different legs.
+const MOST_LEGS: u32 = 256;
+
+/// What a script has that was checked.
+#[derive(Drop)]
+pub struct Trade {
+    /// Its variables, by their first appearance in its text.
+    pub variables: Vec<Name>,
+    /// Its legs, by their first appearance in its text.
+    pub legs: Vec<Name>,
+    /// Its events, in order of date.
+    pub events: Vec<NamedEvent>,
+}
+
+/// What a script has.
 ///
 /// # Errors
 ///
-/// `Refused` with the first that holds of these: `TooMany` events (more than 4,096); `SameDate` with the earliest date that
-/// two of them share; `TooMany` nodes (262,144), payments (16,384), variables (1,024) or legs (256). `NoMemory` where there
-/// was no memory.
-pub fn prepare(alloc: Global, tree: Script) -> Result<Vec<NamedEvent>, CheckStop>
-    ensures accepted { IfOk result (λ events. prepared (view.script tree) ≡ good (map view.event events.items)) }
-    ensures refused { IfErr result (Stops (prepared (view.script tree))) }
+/// `Refused` with the first that holds of these: `BadSchedule` with the first item whose schedule is bad; `TooMany` events (more
+/// than 4,096); `SameDate` with the earliest date that two of them share; `TooMany` nodes of its events (262,144), payments
+/// (16,384), variables (1,024) or legs (256). `NoMemory` where there was no memory.
+pub fn prepare(alloc: Global, tree: &Script) -> Result<Trade, CheckStop>
+    requires { length tree.now.items.items < 2 ^ 32 }
+    ensures accepted { IfOk result (λ found. prepared (view.script tree.now) ≡ good (trade found)) }
+    ensures refused { IfErr result (Stops (prepared (view.script tree.now))) }
 {
-    if let Some(refusal) = refusal_beyond(What::Events, MOST_EVENTS, tree.items.len()) {
-        return Err(CheckStop::Refused(refusal));
-    }
-    let counts = counts_of(alloc, &tree)?;
-    let events = events_in_order(alloc, tree)?;
-    match counts.refusal() {
-        Some(refusal) => Err(CheckStop::Refused(refusal)),
-        None => Ok(events),
+    let events = roll(alloc, tree)?;
+    let variables = variables(alloc, tree)?;
+    check_count(What::Variables, MOST_VARIABLES, variables.as_slice())?;
+    let legs = legs(alloc, tree)?;
+    check_count(What::Legs, MOST_LEGS, legs.as_slice())?;
+    Ok(Trade {
+        variables,
+        legs,
+        events,
+    })
+}
+
+/// Refuses more names than so many.
+fn check_count(what: What, limit: u32, names: &[Name]) -> Result<(), CheckStop>
+    ensures within { OnOk result (nat_le (length names.now) limit ≡ true) }
+    ensures refused { IfErr result (StopsFor (refusal_beyond what limit (length names.now))) }
+{
+    if names.len() <= limit as usize {
+        Ok(())
+    } else {
+        Err(CheckStop::Refused(Refusal::TooMany { what, limit }))
     }
 }

@@ -67,7 +67,7 @@ pub fn put_report<O: Sink>(
 }
 
 /// Puts one piece.
-fn put_piece<O: Sink>(out: &mut O, piece: &[u8]) -> Result<(), PutStop>
+pub fn put_piece<O: Sink>(out: &mut O, piece: &[u8]) -> Result<(), PutStop>
     ensures ok { OnOk result (O.text out.new ≡ appended (O.text out.old) piece.now) }
     ensures front { AppendsFront (O.text out.old) (O.text out.new) piece.now }
     ensures failed { IsErrOf result PutStop.Failed → Rose (O.faults out.old) (O.faults out.new) }

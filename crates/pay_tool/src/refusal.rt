@@ -1,27 +1,16 @@
 //! Why an input is refused.
 
 use pay_dates::Day;
-
-/// What there may be too many of.
-#[derive(Clone, Copy, PartialEq, Eq, Debug)]
-pub enum What {
-    /// Events of a script.
-    Events,
-    /// Nodes of a script: its numbers, conditions and statements.
-    Nodes,
-    /// Payments of a script.
-    Pays,
-    /// Different variables of a script.
-    Variables,
-    /// Different legs of a script.
-    Legs,
-}
+use pay_roll::What;
 
 /// Why an input is refused.
 #[derive(Clone, Copy, PartialEq, Eq, Debug)]
 pub enum Refusal {
     /// The file has more bytes than its limit.
-    TooLong,
+    TooLong {
+        /// How many it may have.
+        limit: u32,
+    },
     /// At this place of the script neither a blank, a comment nor a token begins.
     BadByte {
         /// The place of the byte, from 0.
@@ -40,6 +29,11 @@ pub enum Refusal {
     },
     /// The tokens of the text spell no script.
     NotScript,
+    /// The first date of this schedule of the script isn't before its last, or its step isn't of 1 to 999 units.
+    BadSchedule {
+        /// The number of the item, from 1.
+        item: u32,
+    },
     /// Two events of the script have this date, and no earlier one is shared.
     SameDate {
         /// The date.

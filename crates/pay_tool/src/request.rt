@@ -12,6 +12,16 @@ use std::alloc::{AllocError, Global};
 pub enum Request {
     /// The payments of a script in each scenario of a file.
     Run(RunWords),
+    /// How many events, variables and legs a script has.
+    Check {
+        /// The file of the script.
+        script: FileName,
+    },
+    /// The events of a script.
+    Events {
+        /// The file of the script.
+        script: FileName,
+    },
 }
 
 /// The files of the command `run`.
@@ -43,7 +53,8 @@ impl From<AllocError> for WordsFault {
     }
 }
 
-/// The request of the words after a program's name: `run`, a script file and a scenario file.
+/// The request of the words after a program's name: `run`, a script file and a scenario file; or `check` or `events`, and a script
+/// file.
 ///
 /// # Errors
 ///
@@ -55,6 +66,7 @@ pub fn request_of_words(alloc: Global, words: &Vec<String>) -> Result<Request, W
     ensures stopped { IfErr result (StopsWords (asked_in words.now)) }
 {
     match words.as_slice() {
+        [command, script] => script_request(alloc, command.as_str(), script.as_str()),
         [command, script, scenarios] => run_request(
             alloc,
             command.as_str(),
@@ -63,6 +75,23 @@ pub fn request_of_words(alloc: Global, words: &Vec<String>) -> Result<Request, W
         ),
         _ => Err(WordsFault::NotRequest),
     }
+}
+
+/// The request of two words.
+#[tactic(auto, unfolding(crate::specs::Requests::request_of))]
+fn script_request(alloc: Global, command: &str, script: &str) -> Result<Request, WordsFault>
+    ensures request { IfOk result (λ request. request_of (command.now ∷ script.now ∷ []) ≡ Some (asked_by request)) }
+    ensures stopped { IfErr result (StopsWords (request_of (command.now ∷ script.now ∷ []))) }
+{
+    if command == "check" {
+        let script = FileName::read(alloc, script)?;
+        return Ok(Request::Check { script });
+    }
+    if command == "events" {
+        let script = FileName::read(alloc, script)?;
+        return Ok(Request::Events { script });
+    }
+    Err(WordsFault::NotRequest)
 }
 
 /// The request of three words.

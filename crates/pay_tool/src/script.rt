@@ -1,18 +1,18 @@
 //! A script's text, checked whole: its tokens, its grammar, its limits and the dates of its events.
 
-ghost use Rattle.std.specs.Prelude.{◌≡◌, ◌≤◌, ◌^◌, IfOk, IfErr, length, map};
+ghost use Rattle.std.specs.Prelude.{◌≡◌, ◌≤◌, ◌^◌, IfOk, IfErr, length};
 ghost use Rattle.pay_lexer.specs.declared.fault.LexFault.{LexFault};
 ghost use Rattle.pay_parser.specs.Parsing.{parsed};
-ghost use Rattle.pay_tree.specs.Views.{event};
 ghost use Rattle.pay_tool.specs.Answers.{checked_script, parsed_input, good};
 ghost use Rattle.pay_tool.specs.Stops.{Stops, StopsScript};
+ghost use Rattle.pay_tool.specs.TradeViews.{trade};
 
-use crate::prepare::prepare;
+use crate::prepare::{Trade, prepare};
 use crate::refusal::Refusal;
 use pay_fixed::NoMemory;
 use pay_lexer::{LexFault, Token, lex};
 use pay_parser::{ParseFault, parse};
-use pay_tree::NamedEvent;
+use pay_roll::RollRefusal;
 use std::alloc::Global;
 
 /// Why a text gave no value: it is refused, or there was no memory.
@@ -54,6 +54,25 @@ impl From<ParseFault> for CheckStop {
     }
 }
 
+impl From<RollRefusal> for CheckStop {
+    ghost use Rattle.std.specs.Prelude.{◌≡◌};
+    ghost use Rattle.pay_tool.specs.Stops.{stop_of_rolling};
+
+    ghost from_gives = { λ refusal stop. stop ≡ stop_of_rolling refusal };
+
+    fn from(refusal: RollRefusal) -> CheckStop {
+        match refusal {
+            RollRefusal::BadSchedule { item } => CheckStop::Refused(Refusal::BadSchedule { item }),
+            RollRefusal::SameDate { date } => CheckStop::Refused(Refusal::SameDate { date }),
+            RollRefusal::TooMany { what, limit } => CheckStop::Refused(Refusal::TooMany {
+                what,
+                limit,
+            }),
+            RollRefusal::NoMemory => CheckStop::NoMemory,
+        }
+    }
+}
+
 impl From<NoMemory> for CheckStop {
     ghost use Rattle.std.specs.Prelude.{◌≡◌};
     ghost use Rattle.pay_tool.specs.declared.script.CheckStop.{CheckStop};
@@ -65,7 +84,7 @@ impl From<NoMemory> for CheckStop {
     }
 }
 
-/// The events of a script's text, in order of date.
+/// What the script of a text has.
 ///
 /// `text` has at most 2^20 bytes.
 ///
@@ -73,25 +92,25 @@ impl From<NoMemory> for CheckStop {
 ///
 /// `Refused` with the first that holds of these: `BadByte` with the first place where neither a blank, a comment nor a
 /// token begins; `TooLarge`, and then `TooDeep`, with the place of the first token that passes a limit; `NotScript` where
-/// the tokens spell no script; `TooMany` events; `SameDate` with the earliest date that two items have; `TooMany` nodes,
-/// payments, variables or legs. `NoMemory` where there was no memory.
+/// the tokens spell no script; `BadSchedule` with the first item whose schedule is bad; `TooMany` events; `SameDate` with the
+/// earliest date that two of them have; `TooMany` nodes, payments, variables or legs. `NoMemory` where there was no memory.
 #[tactic(auto, unfolding(crate::specs::Answers::checked_script))]
-pub fn check_script(alloc: Global, text: &[u8]) -> Result<Vec<NamedEvent>, CheckStop>
+pub fn check_script(alloc: Global, text: &[u8]) -> Result<Trade, CheckStop>
     requires { length text.now ≤ 2 ^ 20 }
-    ensures accepted { IfOk result (λ events. checked_script text.now ≡ good (map event events.items)) }
+    ensures accepted { IfOk result (λ found. checked_script text.now ≡ good (trade found)) }
     ensures refused { IfErr result (StopsScript text.now) }
 {
     let tokens = lex(alloc, text)?;
     check_tokens(alloc, tokens.as_slice())
 }
 
-/// The events of the script that tokens spell.
-#[tactic(auto, using(crate::proofs::Checks::parsing_stops))]
-fn check_tokens(alloc: Global, tokens: &[Token]) -> Result<Vec<NamedEvent>, CheckStop>
+/// What the script has that tokens spell.
+#[tactic(auto, using(crate::proofs::Checks::parsing_stops, crate::proofs::ItemLemmas::few_items))]
+fn check_tokens(alloc: Global, tokens: &[Token]) -> Result<Trade, CheckStop>
     requires { length tokens.now ≤ 2 ^ 20 }
-    ensures accepted { IfOk result (λ events. parsed_input (parsed tokens.now) ≡ good (map event events.items)) }
+    ensures accepted { IfOk result (λ found. parsed_input (parsed tokens.now) ≡ good (trade found)) }
     ensures refused { IfErr result (Stops (parsed_input (parsed tokens.now))) }
 {
     let tree = parse(alloc, tokens)?;
-    prepare(alloc, tree)
+    prepare(alloc, &tree)
 }

@@ -1,30 +1,39 @@
 //! The tool as a whole.
 
 ghost use Rattle.std.specs.Prelude.{◌≡◌, ◌+◌, ◌≤◌, ◌⊎◌, None, IfSome, IsSomeAnd, map, string_bytes};
-ghost use Rattle.pay_edge.specs.Edge.{OnlyRead, Rose};
+ghost use Rattle.pay_edge.specs.Edge.{OnlyRead, Rose, appended};
 ghost use Rattle.pay_tool.specs.Answers.{answer_of};
 ghost use Rattle.pay_tool.specs.Causes.{Caused, ends_of, ReadFault, SameBeyond, names_fetched, IsEarly};
 ghost use Rattle.pay_tool.specs.Causes.{IsGiven, IsRefused, IsAbsentInput, IsReport, IsTextBegun};
 ghost use Rattle.pay_tool.specs.Fetches.{most_fetches};
-ghost use Rattle.pay_tool.specs.Headline.{PaysAsMeant, IsPayable};
+ghost use Rattle.pay_tool.specs.Headline.{AsksRun, PaysAsMeant, IsPayable};
+ghost use Rattle.pay_tool.specs.Lines.{TellsLine, NamesInput, line_of};
 ghost use Rattle.pay_tool.specs.Requests.{asked_in};
 
+use crate::about::{check, events};
 use crate::exit::{Exit, status_of};
-use crate::request::{Request, WordsFault, request_of_words};
+use crate::line::{MEMORY_LINE, file_line, put_line, short_line};
+use crate::request::{Request, RunWords, WordsFault, request_of_words};
 use crate::run::run;
 use pay_edge::{Depot, Sink};
+use pay_fixed::NoMemory;
 use std::alloc::Global;
 
-/// Does what the words after a program's name ask for, over the files of a depot: puts a report to `out`, and gives
+/// Does what the words after a program's name ask for, over the files of a depot: puts an answer to `out`, and gives
 /// the exit status.
 ///
 /// `run SCRIPT SCENARIOS` fetches and checks the script file (at most 1,048,576 bytes) and then the scenario file (at
 /// most 67,108,864 bytes). Then it puts a header, for each scenario the payments that the script makes in it, and a
 /// last line. Nothing is put before both files are accepted.
 ///
-/// The status is 0 where the report was put whole, 2 exactly where the words are no request, 3 where a file is refused, 4
+/// `check SCRIPT` fetches and checks the script file, and then puts three lines in one piece: how many events, variables and
+/// legs it has, as `events 5`, `variables 2` and `legs 1`. `events SCRIPT` does the same, and puts the script's events in order
+/// of date in one piece: a line `date,period,days`, and for each event a line as `2024-02-29,1,29`.
+///
+/// The status is 0 where the answer was put whole, 2 exactly where the words are no request, 3 where a file is refused, 4
 /// where a file is not there or a fetch failed, 5 where a put failed, and 6 where there was no memory. No file is
-/// ever changed, and nothing is put to `err`.
+/// ever changed. At 2 to 6 one line is put to `err`, which says why; at 0 nothing is. A put to `err` that fails changes
+/// no status.
 pub fn run_tool<D: Depot, O: Sink, E: Sink>(
     alloc: Global,
     words: &Vec<String>,
@@ -63,8 +72,10 @@ pub fn run_tool<D: Depot, O: Sink, E: Sink>(
     ensures reads { OnlyRead D.files D.read_faults D.write_faults depot.old depot.new }
     ensures other_names { SameBeyond (names_fetched (asked_in words.now) (D.files depot.old)) (D.read_faults depot.old) (D.read_faults depot.new) }
 
-    // Nothing was put to `err`.
-    ensures err { err.new ≡ err.old }
+    // The line to `err`: nothing is put at 0; else one line, of which a fault of `err` may leave less.
+    ensures silent { result ≡ 0 → err.new ≡ err.old }
+    ensures line { ¬ Rose (E.faults err.old) (E.faults err.new) →
+        TellsLine (asked_in words.now) (D.files depot.old) (D.read_faults depot.old) (D.read_faults depot.new) result (E.text err.old) (E.text err.new) }
 
     // No more is fetched than the inputs up to the first that isn't accepted may take.
     ensures fetches { D.fetches depot.new ≤ D.fetches depot.old + most_fetches (asked_in words.now) (D.files depot.old) }
@@ -74,18 +85,70 @@ pub fn run_tool<D: Depot, O: Sink, E: Sink>(
         ¬ ReadFault (asked_in words.now) (D.files depot.old) (D.read_faults depot.old) (D.read_faults depot.new) →
         ¬ Rose (O.faults out.old) (O.faults out.new) → (result ≡ 0) ⊎ (result ≡ 6) }
 
-    // The headline: what was written is what the script means in each scenario.
-    ensures pays_as_meant { result ≡ 0 → IfSome (D.files depot.old) (λ files. IfSome (O.text out.old) (λ before. IfSome (O.text out.new) (λ after.
-        PaysAsMeant (map string_bytes words.now.items) files before after))) }
+    // The headline: what a run has written is what the script means in each scenario.
+    ensures pays_as_meant { result ≡ 0 → AsksRun (asked_in words.now) → IfSome (D.files depot.old) (λ files. IfSome (O.text out.old) (λ before.
+        IfSome (O.text out.new) (λ after. PaysAsMeant (map string_bytes words.now.items) files before after))) }
 
     // And where nothing stands in the way, that is so for each script of the grammar and each table.
     ensures pays_each_script { IsSomeAnd (D.files depot.old) (λ files. IsPayable (map string_bytes words.now.items) files) →
         ¬ ReadFault (asked_in words.now) (D.files depot.old) (D.read_faults depot.old) (D.read_faults depot.new) →
         ¬ Rose (O.faults out.old) (O.faults out.new) → (result ≡ 0) ⊎ (result ≡ 6) }
 {
-    let _ = err;
+    let exit = serve_and_tell(alloc, words, depot, out, err);
+    status_of(&exit)
+}
+
+/// Does what the words ask for, and puts the line of how that ended to `err`, if it has one.
+fn serve_and_tell<D: Depot, O: Sink, E: Sink>(
+    alloc: Global,
+    words: &Vec<String>,
+    depot: &mut D,
+    out: &mut O,
+    err: &mut E,
+) -> Exit
+    ensures reads { OnlyRead D.files D.read_faults D.write_faults depot.old depot.new }
+    ensures other_names { SameBeyond (names_fetched (asked_in words.now) (D.files depot.old)) (D.read_faults depot.old) (D.read_faults depot.new) }
+    ensures fetches { D.fetches depot.new ≤ D.fetches depot.old + most_fetches (asked_in words.now) (D.files depot.old) }
+    ensures untouched { IsEarly result → out.new ≡ out.old }
+    ensures caused { Caused (asked_in words.now) (ends_of D.files D.read_faults O.text O.faults depot.old depot.new out.old out.new) result }
+    ensures silent { result ≡ Exit.Done → err.new ≡ err.old }
+    ensures line { ¬ Rose (E.faults err.old) (E.faults err.new) → E.text err.new ≡ appended (E.text err.old) (line_of result) }
+{
     let exit = serve(alloc, words, depot, out);
-    status_of(exit)
+    tell(alloc, exit, err)
+}
+
+/// Puts the line of an exit, if it has one; where there is no memory for that line, the exit is want of memory, with its own.
+fn tell<E: Sink>(alloc: Global, exit: Exit, err: &mut E) -> Exit
+    ensures kept { (result ≡ exit) ⊎ ((result ≡ Exit.NoMemory) × NamesInput exit) }
+    ensures silent { result ≡ Exit.Done → err.new ≡ err.old }
+    ensures line { ¬ Rose (E.faults err.old) (E.faults err.new) → E.text err.new ≡ appended (E.text err.old) (line_of result) }
+{
+    match short_line(&exit) {
+        Some(line) => {
+            put_line(err, line);
+            exit
+        }
+        None => tell_file(alloc, exit, err),
+    }
+}
+
+/// Puts the line of an exit that names a file; where there is no memory for it, that of want of memory.
+fn tell_file<E: Sink>(alloc: Global, exit: Exit, err: &mut E) -> Exit
+    requires { NamesInput exit }
+    ensures kept { (result ≡ exit) ⊎ (result ≡ Exit.NoMemory) }
+    ensures line { ¬ Rose (E.faults err.old) (E.faults err.new) → E.text err.new ≡ appended (E.text err.old) (line_of result) }
+{
+    match file_line(alloc, &exit) {
+        Ok(line) => {
+            put_line(err, line.as_slice());
+            exit
+        }
+        Err(NoMemory) => {
+            put_line(err, MEMORY_LINE);
+            Exit::NoMemory
+        }
+    }
 }
 
 /// Does what the words ask for.
@@ -97,13 +160,11 @@ fn serve<D: Depot, O: Sink>(alloc: Global, words: &Vec<String>, depot: &mut D, o
     ensures caused { Caused (asked_in words.now) (ends_of D.files D.read_faults O.text O.faults depot.old depot.new out.old out.new) result }
 {
     match request_of_words(alloc, words) {
-        Ok(Request::Run(names)) => run(
-            alloc,
-            names.script.as_str(),
-            names.scenarios.as_str(),
-            depot,
-            out,
+        Ok(Request::Run(RunWords { script, scenarios })) => run(
+            alloc, script, scenarios, depot, out,
         ),
+        Ok(Request::Check { script }) => check(alloc, script, depot, out),
+        Ok(Request::Events { script }) => events(alloc, script, depot, out),
         Err(WordsFault::NotRequest) => Exit::NotRequest,
         Err(WordsFault::NoMemory) => Exit::NoMemory,
     }

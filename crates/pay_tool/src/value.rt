@@ -18,9 +18,9 @@ pub struct Moment {
     pub date: Day,
     /// The fixing at its date, where there is one.
     pub fixing: Option<Fixed>,
-    /// Its place in its schedule, 0 in a plain item.
+    /// The number of its step in its schedule, 0 in a plain item.
     pub period: u32,
-    /// The days since the date before in its schedule, 0 in a plain item.
+    /// The days since the date of the step before, 0 in a plain item.
     pub days: u32,
 }
 

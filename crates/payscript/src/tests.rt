@@ -19,8 +19,49 @@ const REPORT: &str =
 // More than any report of these tests.
 const ROOM: u32 = 10_000;
 
+// A yearly autocall on one index.
+const AUTOCALL: &str = "// autocall on one index
+@2024-03-15  Alive = 1;  base = spot()
+schedule from @2024-03-15 to @2027-03-15 every 1 y following do
+  if alive = 1 then
+    if spot() >= base then note pays 100 + 6 * period(); alive = 0 endif
+  endif
+end
+@2027-03-17
+  if alive = 1 then note pays min(100, 100 * spot() / base) endif
+";
+
+// A command, a script, and what the command writes for it.
+const ANSWERS: [(&str, &str, &str); 7] = [
+    ("check", AUTOCALL, "events 5\nvariables 2\nlegs 1\n"),
+    ("check", "", "events 0\nvariables 0\nlegs 0\n"),
+    // A name that is assigned twice, one that is only read, and one that is a variable and a leg.
+    (
+        "check",
+        "schedule from @2024-01-01 to @2024-01-03 every 1 d do a = b a = 1 a pays a c pays b c pays 1 end",
+        "events 2\nvariables 2\nlegs 2\n",
+    ),
+    (
+        "events",
+        "schedule from @2024-01-31 to @2024-05-15 every 1 m following do a pays days() end",
+        "date,period,days\n2024-02-29,1,29\n2024-04-01,2,32\n2024-04-30,3,29\n2024-05-15,4,15\n",
+    ),
+    (
+        "events",
+        "schedule from @2024-01-31 to @2024-05-15 every 1 m modified do a pays days() end",
+        "date,period,days\n2024-02-29,1,29\n2024-03-29,2,29\n2024-04-30,3,32\n2024-05-15,4,15\n",
+    ),
+    // Several items in order of date, and dates that a rule moves to one.
+    (
+        "events",
+        "schedule from @2024-06-29 to @2024-07-03 every 1 d following do end @2024-06-30 schedule from @2024-05-30 to @2024-06-29 every 2 w do end",
+        "date,period,days\n2024-06-13,1,14\n2024-06-27,2,14\n2024-06-29,3,2\n2024-06-30,0,0\n2024-07-01,1,0\n2024-07-02,3,1\n2024-07-03,4,1\n",
+    ),
+    ("events", "", "date,period,days\n"),
+];
+
 // A script, a table, and the report of the script over the table.
-const REPORTS: [(&str, &str, &str); 25] = [
+const REPORTS: [(&str, &str, &str); 29] = [
     (SCRIPT, TABLE, REPORT),
     // Several payments, and a value that is rounded away from zero.
     (
@@ -155,6 +196,30 @@ const REPORTS: [(&str, &str, &str); 25] = [
         "scenario,2024-06-28\nb,0.9999\nc,1\nd,1.0001\n",
         "scenario,date,leg,amount\nb,2024-06-28,a,1\nb,2024-06-28,a,2\nb,2024-06-28,a,6\nc,2024-06-28,a,2\nc,2024-06-28,a,4\nc,2024-06-28,a,5\nd,2024-06-28,a,3\nd,2024-06-28,a,4\nd,2024-06-28,a,6\n#nodes,,,\n",
     ),
+    // The events of a schedule, with its days, among which a plain item stands.
+    (
+        "schedule from @2024-01-31 to @2024-05-15 every 1 m following do a pays days() + x end @2024-04-29 x = 100",
+        "scenario\ns\n",
+        "scenario,date,leg,amount\ns,2024-02-29,a,29\ns,2024-04-01,a,32\ns,2024-04-30,a,129\ns,2024-05-15,a,115\n#nodes,,,\n",
+    ),
+    // An event of a schedule that faults ends the scenario.
+    (
+        "schedule from @2024-01-01 to @2024-01-04 every 1 d do a pays spot() * period() end",
+        "scenario,2024-01-02,2024-01-03,2024-01-04\ns,1,2,3\nt,1,,3\n",
+        "scenario,date,leg,amount\ns,2024-01-02,a,1\ns,2024-01-03,a,4\ns,2024-01-04,a,9\nt,2024-01-02,a,1\nt,2024-01-03,!missing fixing,\n#nodes,,,\n",
+    ),
+    // An autocall that is redeemed at its second date, and one that lasts to the end.
+    (
+        AUTOCALL,
+        "scenario,2024-03-15,2025-03-17,2026-03-16,2027-03-15,2027-03-17\nup,5000,4800,5100,5200,5200\nflat,5000,4800,4900,4950,4950\n",
+        "scenario,date,leg,amount\nup,2026-03-16,note,112\nflat,2027-03-17,note,99\n#nodes,,,\n",
+    ),
+    // Units are names elsewhere, and a count may have zeros before it.
+    (
+        "schedule from @2024-01-31 to @2024-02-29 every 0001 M do d = 2 w = d y pays w m pays d * w end",
+        "scenario\ns\n",
+        "scenario,date,leg,amount\ns,2024-02-29,y,2\ns,2024-02-29,m,4\n#nodes,,,\n",
+    ),
     // Nothing to run.
     ("", "scenario\n", "scenario,date,leg,amount\n#nodes,,,\n"),
 ];
@@ -171,7 +236,7 @@ const REFUSED: [(&str, &str); 6] = [
 ];
 
 // A script's text, and why it is refused.
-const REFUSALS: [(&str, Refusal); 14] = [
+const REFUSALS: [(&str, Refusal); 23] = [
     ("@2024-02-30", Refusal::BadByte { at: 0 }),
     ("@2024-06-28 a pays 1 ! 2", Refusal::BadByte { at: 21 }),
     ("@2024-06-28 a pays 1. ", Refusal::BadByte { at: 20 }),
@@ -196,11 +261,52 @@ const REFUSALS: [(&str, Refusal); 14] = [
     ),
     ("@2024-06-28 if 1 < 2 then a pays 1", Refusal::NotScript),
     ("schedule from", Refusal::NotScript),
+    (
+        "schedule from @2024-01-31 to @2024-05-15 every 1.0 m do end",
+        Refusal::NotScript,
+    ),
+    (
+        "schedule from @2024-01-31 to @2024-05-15 every 1 m do end;",
+        Refusal::NotScript,
+    ),
+    (
+        "@2024-01-01 if 1 = 1 then schedule from @2024-01-31 to @2024-05-15 every 1 m do end endif",
+        Refusal::NotScript,
+    ),
+    // Dates that are the same, or the wrong way round, and steps of no days and of too many. Items are counted from 1.
+    (
+        "schedule from @2024-01-31 to @2024-01-31 every 1 m following do a pays days() end",
+        Refusal::BadSchedule { item: 1 },
+    ),
+    (
+        "@2024-01-01 schedule from @2024-05-15 to @2024-01-31 every 1 m do end",
+        Refusal::BadSchedule { item: 2 },
+    ),
+    (
+        "@2024-01-01 @2024-01-02 schedule from @2024-01-31 to @2024-05-15 every 0 d do end schedule from @2024-01-31 to @2024-05-15 every 1000 d do end",
+        Refusal::BadSchedule { item: 3 },
+    ),
+    (
+        "schedule from @2024-01-31 to @2024-05-15 every 1000 d do end",
+        Refusal::BadSchedule { item: 1 },
+    ),
+    (
+        "schedule from @1900-01-01 to @2199-12-31 every 1 d do end",
+        Refusal::TooMany {
+            what: What::Events,
+            limit: 4_096,
+        },
+    ),
+    // A bad schedule is asked before the number of events, and that before a shared date.
+    (
+        "schedule from @1900-01-01 to @2199-12-31 every 1 d do end schedule from @1900-01-01 to @2199-12-31 every 0 d do end",
+        Refusal::BadSchedule { item: 2 },
+    ),
 ];
 
 // A script of a piece that is repeated between a front and a back, how often, and why it is refused. The names in the
 // pieces differ where they have a `#`, which stands for a number.
-const REPEATED: [(&str, &str, &str, usize, Refusal); 14] = [
+const REPEATED: [(&str, &str, &str, usize, Refusal); 16] = [
     (
         "@2024-06-28 a pays ",
         "(",
@@ -284,6 +390,27 @@ const REPEATED: [(&str, &str, &str, usize, Refusal); 14] = [
             limit: 262_144,
         },
     ),
+    // The statements of a schedule are counted in each of its 3,599 events.
+    (
+        "schedule from @1900-01-01 to @2199-12-01 every 1 m do ",
+        "x = 1 ",
+        "end",
+        37,
+        Refusal::TooMany {
+            what: What::Nodes,
+            limit: 262_144,
+        },
+    ),
+    (
+        "schedule from @1900-01-01 to @2199-12-01 every 1 m do ",
+        "a pays 1 ",
+        "end",
+        5,
+        Refusal::TooMany {
+            what: What::Pays,
+            limit: 16_384,
+        },
+    ),
     (
         "@2024-06-28 ",
         "a pays 1 ",
@@ -317,7 +444,7 @@ const REPEATED: [(&str, &str, &str, usize, Refusal); 14] = [
 ];
 
 // Words, and the status that they end with where the depot has a script `s.pay` and a table `t.csv`.
-const WORDS: [(&[&str], u8); 12] = [
+const WORDS: [(&[&str], u8); 21] = [
     (&["run", "s.pay", "t.csv"], 0),
     (&[], 2),
     (&["run", "s.pay"], 2),
@@ -330,6 +457,15 @@ const WORDS: [(&[&str], u8); 12] = [
     (&["run", "t.csv", "absent"], 3),
     (&["run", "absent", "t.csv"], 4),
     (&["run", "s.pay", "absent"], 4),
+    (&["check", "s.pay"], 0),
+    (&["events", "s.pay"], 0),
+    (&["check"], 2),
+    (&["check", "s.pay", "t.csv"], 2),
+    (&["Check", "s.pay"], 2),
+    (&["events", "--s.pay"], 2),
+    (&["explain", "s.pay"], 2),
+    (&["check", "t.csv"], 3),
+    (&["events", "absent"], 4),
 ];
 
 // A put that fails, the status, and the pieces before it: the header, the lines of each scenario that has lines, the
@@ -363,8 +499,14 @@ fn depot_with(alloc: Global, script: &[u8], table: &[u8]) -> Result<MemoryDepot,
     Ok(depot)
 }
 
+// Whether a text is one line of the program.
+fn is_line(text: &[u8]) -> bool {
+    text.starts_with(b"payscript: ")
+        && text.iter().position(|byte| *byte == b'\n') == Some(text.len() - 1)
+}
+
 // Runs the tool on `s.pay` and `t.csv` of a depot, and looks whether it ends with this status, has put this text to
-// `out`, and nothing to `err`.
+// `out`, and to `err` nothing with status 0 and else one line.
 fn ends(
     rt: &impl Abort,
     alloc: Global,
@@ -378,7 +520,112 @@ fn ends(
     let answer = run_tool(alloc, &words, depot, out, &mut err);
     assert_eq!(rt; answer, status);
     assert_eq!(rt; out.text(), text.as_bytes());
-    assert_eq!(rt; err.text(), b"".as_slice());
+    assert!(rt;
+        if status == 0 {
+            err.text().is_empty()
+        } else {
+            is_line(err.text())
+        }
+    );
+    Ok(())
+}
+
+// A script, a table, and the line to `err` where one of them is refused.
+const LINES: [(&str, &str, &str); 10] = [
+    (
+        "@2024-02-30",
+        TABLE,
+        "payscript: s.pay: byte 0: no token begins here\n",
+    ),
+    (
+        "@2024-06-28 a pays 100000000000000.0001",
+        TABLE,
+        "payscript: s.pay: byte 19: token too large\n",
+    ),
+    (
+        "@2024-06-28 a pays (((((((((((((((((((((((((((((((((((((((((((((((((((((((((((((((((((((((((((((((((((((((((((((((((((((",
+        TABLE,
+        "payscript: s.pay: byte 119: nested too deep\n",
+    ),
+    (
+        "@2024-06-28 a pays 1 < 2",
+        TABLE,
+        "payscript: s.pay: not a script\n",
+    ),
+    (
+        "@2024-01-10 a pays 1 @2024-01-10 a pays 2",
+        TABLE,
+        "payscript: s.pay: two events on 2024-01-10\n",
+    ),
+    (
+        "@2024-01-10 schedule from @2024-01-31 to @2024-01-31 every 1 m do end",
+        TABLE,
+        "payscript: s.pay: item 2: bad schedule\n",
+    ),
+    (
+        "schedule from @2024-01-31 to @2024-05-15 every 1 m following do a pays days() end @2024-04-30 a pays 1",
+        TABLE,
+        "payscript: s.pay: two events on 2024-04-30\n",
+    ),
+    (
+        "schedule from @1900-01-01 to @2199-12-31 every 1 d do end",
+        TABLE,
+        "payscript: s.pay: more than 4096 events\n",
+    ),
+    (SCRIPT, "", "payscript: t.csv: not a table\n"),
+    // The script is looked at first.
+    ("1", "", "payscript: s.pay: not a script\n"),
+];
+
+#[test]
+fn a_refusal_has_its_line(rt: HostRuntime) -> Result<(), Fail> {
+    let alloc = rt.alloc();
+    for (script, table, line) in LINES {
+        let mut depot = depot_with(alloc, script.as_bytes(), table.as_bytes())?;
+        assert_eq!(rt;
+            line_of(alloc, &["run", "s.pay", "t.csv"], &mut depot)?.text(),
+            line.as_bytes()
+        );
+    }
+    Ok(())
+}
+
+// What a run of these words puts to `err`.
+fn line_of(alloc: Global, words: &[&str], depot: &mut MemoryDepot) -> Result<MemorySink, Fail> {
+    let words = words_of(alloc, words)?;
+    let mut out = MemorySink::new(alloc, ROOM)?;
+    let mut err = MemorySink::new(alloc, ROOM)?;
+    run_tool(alloc, &words, depot, &mut out, &mut err);
+    Ok(err)
+}
+
+#[test]
+fn other_statuses_have_their_lines(rt: HostRuntime) -> Result<(), Fail> {
+    let alloc = rt.alloc();
+    let mut depot = depot_with(alloc, SCRIPT.as_bytes(), TABLE.as_bytes())?;
+    let lines: [(&[&str], &str); 4] = [
+        (&[], "payscript: words not understood\n"),
+        (
+            &["run", "gone.pay", "t.csv"],
+            "payscript: gone.pay: read fault\n",
+        ),
+        (
+            &["run", "s.pay", "gone.csv"],
+            "payscript: gone.csv: read fault\n",
+        ),
+        (&["run", "s.pay", "t.csv"], ""),
+    ];
+    for (words, line) in lines {
+        assert_eq!(rt; line_of(alloc, words, &mut depot)?.text(), line.as_bytes());
+    }
+    let mut short = MemorySink::new(alloc, 0)?;
+    let mut err = MemorySink::new(alloc, ROOM)?;
+    let words = words_of(alloc, &["run", "s.pay", "t.csv"])?;
+    assert_eq!(rt;
+        run_tool(alloc, &words, &mut depot, &mut short, &mut err),
+        5
+    );
+    assert_eq!(rt; err.text(), b"payscript: write fault\n".as_slice());
     Ok(())
 }
 
@@ -389,6 +636,27 @@ fn a_run_writes_what_the_script_means(rt: HostRuntime) -> Result<(), Fail> {
         let mut depot = depot_with(alloc, script.as_bytes(), table.as_bytes())?;
         let mut out = MemorySink::new(alloc, ROOM)?;
         ends(&rt, alloc, &mut depot, &mut out, 0, report)?;
+    }
+    Ok(())
+}
+
+// Each of these answers is one piece.
+#[test]
+fn a_command_writes_its_answer(rt: HostRuntime) -> Result<(), Fail> {
+    let alloc = rt.alloc();
+    for (command, script, answer) in ANSWERS {
+        let words = words_of(alloc, &[command, "s.pay"])?;
+        for (call, status, text) in [(1, 5, ""), (2, 0, answer)] {
+            let mut depot = depot_with(alloc, script.as_bytes(), b"")?;
+            let mut out = MemorySink::new(alloc, ROOM)?;
+            out.fail_put(call)?;
+            let mut err = MemorySink::new(alloc, ROOM)?;
+            assert_eq!(rt;
+                run_tool(alloc, &words, &mut depot, &mut out, &mut err),
+                status
+            );
+            assert_eq!(rt; out.text(), text.as_bytes());
+        }
     }
     Ok(())
 }
@@ -495,7 +763,9 @@ fn a_shared_date_is_named(rt: HostRuntime) -> Result<(), Fail> {
 fn words_give_a_request(rt: HostRuntime) -> Result<(), Fail> {
     let alloc = rt.alloc();
     let words = words_of(alloc, &["run", "s.pay", "t.csv"])?;
-    let Request::Run(names) = request_of_words(alloc, &words)?;
+    let Request::Run(names) = request_of_words(alloc, &words)? else {
+        return Err(Fail::new("no request to run"));
+    };
     assert_eq!(rt; names.script.as_str(), "s.pay");
     assert_eq!(rt; names.scenarios.as_str(), "t.csv");
     let none = request_of_words(alloc, &words_of(alloc, &["run"])?);
@@ -566,17 +836,31 @@ fn a_sink_without_room_has_a_front(rt: HostRuntime) -> Result<(), Fail> {
     ends(&rt, alloc, &mut depot, &mut out, 5, front)
 }
 
+// Words, the room of the output, and the status that they end with where nothing can be put to `err`.
+const UNTOLD: [(&[&str], u32, u8); 6] = [
+    (&["run", "s.pay", "t.csv"], ROOM, 0),
+    (&[], ROOM, 2),
+    (&["run", "t.csv", "t.csv"], ROOM, 3),
+    (&["check", "t.csv"], ROOM, 3),
+    (&["events", "absent"], ROOM, 4),
+    (&["run", "s.pay", "t.csv"], 0, 5),
+];
+
 #[test]
-fn a_failing_err_changes_nothing(rt: HostRuntime) -> Result<(), Fail> {
+fn a_failing_err_changes_no_status(rt: HostRuntime) -> Result<(), Fail> {
     let alloc = rt.alloc();
-    let words = words_of(alloc, &["run", "s.pay", "t.csv"])?;
-    let mut depot = depot_with(alloc, SCRIPT.as_bytes(), TABLE.as_bytes())?;
-    let mut out = MemorySink::new(alloc, ROOM)?;
-    let mut err = MemorySink::new(alloc, 0)?;
-    err.fail_put(1)?;
-    let answer = run_tool(alloc, &words, &mut depot, &mut out, &mut err);
-    assert_eq!(rt; answer, 0);
-    assert_eq!(rt; out.text(), REPORT.as_bytes());
+    for (words, room, status) in UNTOLD {
+        let words = words_of(alloc, words)?;
+        let mut depot = depot_with(alloc, SCRIPT.as_bytes(), TABLE.as_bytes())?;
+        let mut out = MemorySink::new(alloc, room)?;
+        let mut err = MemorySink::new(alloc, ROOM)?;
+        err.fail_put(1)?;
+        assert_eq!(rt;
+            run_tool(alloc, &words, &mut depot, &mut out, &mut err),
+            status
+        );
+        assert!(rt; err.text().is_empty());
+    }
     Ok(())
 }
 

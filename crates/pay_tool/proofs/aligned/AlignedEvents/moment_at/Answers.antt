@@ -1,5 +1,5 @@
 -- The fixing of an event is the cell in its column.
-use Rattle.std.proofs.Common.{rules, ◌≡◌, ℤ, Option, None, get_or, sym, ap, ◌∙◌}
+use Rattle.std.proofs.Common.{ℤ, Option, None, ap, ◌∙◌}
 use Rattle.pay_meaning.specs.Meaning.{Moment}
 use Rattle.pay_tool.specs.Cells.{cell_at}
 use Rattle.pay_tool.proofs.ColumnLemmas.{column-at, cell-is-fixing}
