@@ -69,7 +69,7 @@ abbrev pub and_then : Body → Statement → Body
 and_then done last = next last done
 and_then (next s rest) last = next s (and_then rest last)
 
--- statements on one date; a rolled event also has its place in its schedule and the days since the date before, a plain event 0 and 0
+-- statements on one date; a rolled event also has the number of its step and the days since the date before, a plain event 0 and 0
 pub record Event : Type 0 where
   pub date : Day
   pub period : ℕ

@@ -29,14 +29,16 @@ refusal_of_many : (script : Script) → first_bad 1 script ≡ None → 4096 < l
 unfolding roll_refusal
 refusal_of_many script good many = rw (good, beyond (length (all_events script)) 4096 many) refl
 
-pub refusal_of_plan : (script : Script) (refusal : RollRefusal) → first_bad 1 script ≡ None → IsPlanRefusal (all_events script) refusal → IsRefusalOf script refusal
+pub refusal_of_plan : (script : Script) (refusal : RollRefusal) → first_bad 1 script ≡ None → IsPlanRefusal (all_events script) refusal
+    → IsRefusalOf script refusal
 refusal_of_plan script (BadSchedule item) good is = absurd is
 refusal_of_plan script (SameDate date) good is = absurd is
 refusal_of_plan script (TooMany what limit) good is = rw (is.0, is.1) (refusal_of_many script good is.2)
 refusal_of_plan script NoMemory good is = tt
 
 -- and then what the events are refused for
-refusal_of_events : (script : Script) → first_bad 1 script ≡ None → length (all_events script) ≤ 4096 → roll_refusal script ≡ first_of (event_refusals (events_of script))
+refusal_of_events : (script : Script) → first_bad 1 script ≡ None → length (all_events script) ≤ 4096
+    → roll_refusal script ≡ first_of (event_refusals (events_of script))
 unfolding roll_refusal
 refusal_of_events script good few = rw (good, within (length (all_events script)) 4096 few) refl
 
@@ -56,6 +58,7 @@ refusal_is script (TooMany what limit) is = is
 refusal_is script NoMemory is = tt
 
 -- what holds of a fault holds of an answer that is this fault
-pub is_of_fault : {T E : Type 0} (Holds : E → Type 0) (fault : E) (answer : Result T E) → IsErrAnd answer (λ other. other ≡ fault) → Holds fault → IfErr answer Holds
+pub is_of_fault : {T E : Type 0} (Holds : E → Type 0) (fault : E) (answer : Result T E) → IsErrAnd answer (λ other. other ≡ fault)
+    → Holds fault → IfErr answer Holds
 is_of_fault Holds fault (Err other) is holds = subst Holds (sym is) holds
 is_of_fault Holds fault (Ok value) is holds = absurd is

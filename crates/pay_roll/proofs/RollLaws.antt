@@ -1,5 +1,6 @@
 -- The events of a script that is not refused, and the schedule that is named where one is none.
-use Rattle.std.proofs.Common.{◌≡◌, ℕ, ◌+◌, ◌≤◌, ℤ, ◌<ℤ◌, Bool, true, false, not, ◌&&◌, List, [], ◌∷◌, length, Option, Some, None, refl, sym, ap, ◌∙◌, inl, inr, arith}
+use Rattle.std.proofs.Common.{◌≡◌, ℕ, ◌+◌, ◌≤◌, ℤ, ◌<ℤ◌, Bool, true, false, not, ◌&&◌, List, [], ◌∷◌, length, Option}
+use Rattle.std.proofs.Common.{Some, None, refl, sym, ap, ◌∙◌, inl, inr, arith}
 use Rattle.std.proofs.lemmas.Bool.{cases_Bool}
 use Rattle.std.proofs.lemmas.Bool.Decides.{nat_tests}
 use Rattle.std.proofs.lemmas.Int.{ints, by_lt_z}
@@ -161,7 +162,8 @@ of_events_named events item named =
     cc
 
 named_first : (found : Option ℕ) (p : Bool) (events : List Event) (item : ℕ)
-    → first_of (option_map (λ number. BadSchedule number) found ∷ (if p then None else Some (TooMany Events 4096)) ∷ event_refusals events) ≡ Some (BadSchedule item)
+    → first_of (option_map (λ number. BadSchedule number) found ∷ (if p then None else Some (TooMany Events 4096)) ∷ event_refusals events)
+    ≡ Some (BadSchedule item)
     → found ≡ Some item
 named_first (Some number) p events item named = cc
 named_first None p events item named = absurd (of_events_named events item (not_beyond p Events 4096 item (event_refusals events) named))
@@ -169,6 +171,7 @@ named_first None p events item named = absurd (of_events_named events item (not_
 pub bad-named : FirstBadIsNamed
 unfolding roll_refusal
 bad-named = record {
-  named = λ script item named. first_is 1 item script (named_first (first_bad 1 script) (nat_le (length (all_events script)) 4096) (events_of script) item named);
+  named = λ script item named.
+      first_is 1 item script (named_first (first_bad 1 script) (nat_le (length (all_events script)) 4096) (events_of script) item named);
   none = λ script none. none_is 1 script (unnamed (first_bad 1 script) (first_none _ _ none));
 }

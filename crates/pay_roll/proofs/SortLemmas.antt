@@ -13,7 +13,8 @@ use Rattle.pay_meaning.proofs.EventLaws.{order-unique, eq-cases, lt-cases}
 use Rattle.pay_roll.specs.declared.plan.PlannedEvent.{PlannedEvent}
 use Rattle.pay_roll.specs.Plans.{planned, date_number}
 
-tie-by : (p q : Bool) → is_eq (cond q Less (cond p Greater Equal)) ≡ (not (is_lt (cond p Less (cond q Greater Equal))) && not (is_lt (cond q Less (cond p Greater Equal))))
+tie-by : (p q : Bool) → is_eq (cond q Less (cond p Greater Equal))
+    ≡ (not (is_lt (cond p Less (cond q Greater Equal))) && not (is_lt (cond q Less (cond p Greater Equal))))
 tie-by true true = refl
 tie-by true false = refl
 tie-by false true = refl
@@ -27,7 +28,8 @@ tie-is : (x z : PlannedEvent) → int_eq (date_number z) (date_number x) ≡ sam
 tie-is x z = tie-by (int_lt (date_number x) (date_number z)) (int_lt (date_number z) (date_number x))
 
 -- the events on the date of one, before and after the view
-kept-cons : (b c : Bool) (z : PlannedEvent) (zs : List Event) (ws : List PlannedEvent) → b ≡ c → zs ≡ map planned ws → cond b (planned z ∷ zs) zs ≡ map planned (cond c (z ∷ ws) ws)
+kept-cons : (b c : Bool) (z : PlannedEvent) (zs : List Event) (ws : List PlannedEvent) → b ≡ c → zs ≡ map planned ws
+    → cond b (planned z ∷ zs) zs ≡ map planned (cond c (z ∷ ws) ws)
 kept-cons true true z zs ws e f = ap (λ xs. planned z ∷ xs) f
 kept-cons true false z zs ws e f = cc
 kept-cons false true z zs ws e f = cc
@@ -49,12 +51,14 @@ found-at n (z ∷ zs) = elim (eq-cases (date_number z) n) [
   | inr miss ↦ elim (found-at n zs) [ inl there ↦ inl there | inr none ↦ inr (rw miss.0 none) ]
 ]
 
-same-at : (n : ℤ) (xs ys : List PlannedEvent) → IsStableByKey date_number int_cmp xs ys → At n → events_at n (map planned ys) ≡ events_at n (map planned xs)
+same-at : (n : ℤ) (xs ys : List PlannedEvent) → IsStableByKey date_number int_cmp xs ys → At n
+    → events_at n (map planned ys) ≡ events_at n (map planned xs)
 same-at n xs ys stable at =
     ap (λ m. events_at m (map planned ys)) (sym at.is) ∙ at-own-date at.one ys ∙ ap (map planned) (stable at.one)
     ∙ sym (at-own-date at.one xs) ∙ ap (λ m. events_at m (map planned xs)) at.is
 
-same-everywhere : (n : ℤ) (xs ys : List PlannedEvent) → IsStableByKey date_number int_cmp xs ys → events_at n (map planned ys) ≡ events_at n (map planned xs)
+same-everywhere : (n : ℤ) (xs ys : List PlannedEvent) → IsStableByKey date_number int_cmp xs ys
+    → events_at n (map planned ys) ≡ events_at n (map planned xs)
 same-everywhere n xs ys stable = elim (found-at n xs) [
   | inl at ↦ same-at n xs ys stable at
   | inr none ↦ elim (found-at n ys) [ inl at ↦ same-at n xs ys stable at | inr neither ↦ neither ∙ sym none ]
@@ -93,7 +97,8 @@ sorted-steps (x ∷ y ∷ ys) h = (
   sorted-steps (y ∷ ys) (λ k d low high. simp add-one (simp add-one at (h (k + 1) d (omega arith) (omega arith)))),
 )
 
-pub sorted-in_order : (xs ys : List PlannedEvent) → IsSortedByKey date_number int_cmp ys → IsStableByKey date_number int_cmp xs ys → map planned ys ≡ in_order (map planned xs)
+pub sorted-in_order : (xs ys : List PlannedEvent) → IsSortedByKey date_number int_cmp ys → IsStableByKey date_number int_cmp xs ys
+    → map planned ys ≡ in_order (map planned xs)
 sorted-in_order xs ys sorted stable = order-unique.unique (map planned xs) (map planned ys) (record {
   rising = steps-rise (map planned ys) (sorted-steps ys sorted);
   same = λ n. same-everywhere n xs ys stable;

@@ -1,6 +1,7 @@
 //! The events of a script before their statements are copied.
 
-ghost use Rattle.std.specs.Prelude.{◌≡◌, ◌<◌, ◌≤◌, ◌^◌, ◌++◌, ◌∷◌, [], ◌&&◌, int_lt, nat_le, None, false, IfOk, IfErr, OnOk, length, map};
+ghost use Rattle.std.specs.Prelude.{◌≡◌, ◌<◌, ◌≤◌, ◌^◌, ◌++◌, ◌∷◌, [], ◌&&◌, int_lt, nat_le, None, false, IfOk, IfErr, OnOk};
+ghost use Rattle.std.specs.Prelude.{length, map};
 ghost use Rattle.pay_dates.specs.Days.{day_number};
 ghost use Rattle.pay_meaning.specs.Events.{all_events, events_in, rolled_event};
 ghost use Rattle.pay_roll.specs.Plans.{planned, IsPlanRefusal};

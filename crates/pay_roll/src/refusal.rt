@@ -12,6 +12,10 @@ pub enum What {
     Nodes,
     /// Payments of a script's events.
     Pays,
+    /// Rows of a table.
+    Rows,
+    /// Date columns of a table.
+    Columns,
     /// Different variables of a script.
     Variables,
     /// Different legs of a script.

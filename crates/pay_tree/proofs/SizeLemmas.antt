@@ -1,5 +1,5 @@
 -- Counts up to one more than a limit, and the payments among parts.
-use Rattle.std.proofs.Common.{◌≡◌, ℕ, ◌+◌, Bool, true, false, List, [], ◌∷◌, ◌++◌, length, filter, if◌then◌else◌, nat_le, arith, sym, ap, ◌∙◌, refl}
+use Rattle.std.proofs.Common.{◌≡◌, ℕ, ◌+◌, Bool, true, false, List, [], ◌∷◌, ◌++◌, length, filter, if◌then◌else◌, arith, ◌∙◌, refl}
 use Rattle.pay_meaning.specs.Language.{Number, literal, variable, spot, period, days, negative, absolute, binary, Condition, compare, negation}
 use Rattle.pay_meaning.specs.Language.{conjunction, disjunction, settled, sure, assign, pay, choose, Body}
 use Rattle.pay_meaning.specs.Parts.{Part, a_statement, is_payment, payment_count, number_parts, condition_parts, statement_parts, body_parts}

@@ -39,7 +39,7 @@ pub enum Expr {
     Name(Name),
     /// `spot()`, the fixing at the event's date.
     Spot,
-    /// `period()`, the event's place in its schedule, 0 in a plain item.
+    /// `period()`, the number of the step that gave the event, 0 in a plain item.
     Period,
     /// `days()`, the days since the date before in its schedule, 0 in a plain item.
     Days,
@@ -146,7 +146,7 @@ pub struct Script {
 pub struct NamedEvent {
     /// The date of the event.
     pub date: Day,
-    /// The number of the event in its schedule, from 1 on; 0 in a plain item.
+    /// The number of the step that gave the event, from 1 on; 0 in a plain item.
     pub period: u32,
     /// The days since the date before in its schedule, whose first date is the one it is counted from; 0 in a plain item.
     pub days: u32,
