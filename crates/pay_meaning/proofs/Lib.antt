@@ -2,3 +2,4 @@ pub mod MeaningLaws
 pub mod VariableLaws
 pub mod ConditionLaws
 pub mod EventLaws
+pub mod FixingLaws

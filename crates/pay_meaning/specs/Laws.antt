@@ -1,5 +1,5 @@
 -- Laws that show that the definitions are the ones meant.
-use Rattle.std.specs.Prelude.{◌≡◌, ℕ, true, false, List, [], ◌∷◌, ◌++◌, Some, None, ℤ, ◌≤ℤ◌, ◌<ℤ◌, Result, Ok, Err, IfOk}
+use Rattle.std.specs.Prelude.{◌≡◌, ℕ, true, false, List, [], ◌∷◌, ◌++◌, Some, None, ℤ, ◌≤ℤ◌, ◌<ℤ◌, Result, Ok, Err, IfOk, if◌then◌else◌}
 use Rattle.std.specs.Bool.{Decides}
 use Rattle.pay_dates.specs.declared.day.Day.{Day}
 use Rattle.pay_meaning.specs.Language.{Event, Body, Statement, choose, and_then, Comparison, less, at_most, greater, at_least, equals, differs}
@@ -7,6 +7,7 @@ use Rattle.pay_meaning.specs.Language.{Number, Note, Condition, compare, negatio
 use Rattle.pay_meaning.specs.Parts.{as_variable, body_parts, names_in}
 use Rattle.pay_meaning.specs.declared.fault.FaultKind.{FaultKind}
 use Rattle.pay_meaning.specs.Meaning.{Variables, Fixings, fixing_at, Payment, Meaning, End, finished, faulted, meaning_by, EventRun, after_earlier}
+use Rattle.pay_meaning.specs.Meaning.{Past, Cells, is_past, fixings_in, fixings_of}
 use Rattle.pay_meaning.specs.Meaning.{Moment, Effect, effect, lookup, value, compared, truth, effect_of, followed_by}
 use Rattle.pay_meaning.specs.Events.{number_of, events_at, in_order, shared_date, IsEarliestShared, IsShared}
 
@@ -30,6 +31,13 @@ AgreeOn (event ∷ rest) a b = (fixing_at a event.date ≡ fixing_at b event.dat
 abbrev pub MeaningReadsOwnDates : Type 0
 MeaningReadsOwnDates = (run : EventRun) (events : List Event) (variables : Variables) (a b : Fixings) → AgreeOn events a b
     → meaning_by run events variables a ≡ meaning_by run events variables b
+
+-- The fixing of a run at a date that isn't after the as-of date is the past one, and there is none where the past has none, whatever the row has;
+-- at each later date it is the row's, whatever the past has.
+abbrev pub FixingIsPastOrTheRows : Type 0
+FixingIsPastOrTheRows = (past : Past) (row : Cells) (date : Day) →
+    fixing_at (fixings_of (Some past) row) date
+    ≡ (if is_past past.asof date then fixing_at (fixings_in past.cells) date else fixing_at (fixings_in row) date)
 
 -- two maps of variables have the same value for each of these names
 abbrev pub AgreeAt : List (List ℕ) → Variables → Variables → Type 0

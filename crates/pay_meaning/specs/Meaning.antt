@@ -1,6 +1,7 @@
 -- What a script means: the payments that its events make in one scenario.
 use Rattle.std.specs.Prelude.{ℕ, ◌*◌, ℤ, pos, neg_ℤ, ◌+ℤ◌, ◌-ℤ◌, int_le, int_lt, unsigned_abs, Bool, true, false, not, List, [], ◌∷◌, ◌++◌}
 use Rattle.std.specs.Prelude.{Option, Some, None, Result, Ok, Err, unwrap_or}
+use Rattle.std.specs.List.{filter}
 use Rattle.std.specs.Ordering.{nat_cmp, int_cmp, int_eq}
 use Rattle.std.specs.Cmp.Lexicographic.{slice_cmp}
 use Rattle.std.specs.FinMap.{FinMap, empty, get, insert}
@@ -199,9 +200,31 @@ meaning events variables fixings = meaning_by effect events variables fixings
 abbrev pub no_variables : Variables
 no_variables = empty
 
--- the fixings of a row: its cells that aren't empty, by the numbers of their dates
-abbrev pub fixings_of : List Day → List (Option ℤ) → Fixings
-fixings_of [] cells = empty
-fixings_of (date ∷ dates) [] = empty
-fixings_of (date ∷ dates) (None ∷ cells) = fixings_of dates cells
-fixings_of (date ∷ dates) (Some raw ∷ cells) = insert (fixings_of dates cells) (day_number date) raw
+-- cells by date: a raw, or nothing where a cell is empty
+abbrev pub Cells : Type 0
+Cells = List (Day × Option ℤ)
+
+-- the fixings with one more cell; an empty one is no fixing
+abbrev pub with_cell : Day → Option ℤ → Fixings → Fixings
+with_cell date None fixings = fixings
+with_cell date (Some raw) fixings = insert fixings (day_number date) raw
+
+-- the fixings that cells are
+abbrev pub fixings_in : Cells → Fixings
+fixings_in [] = empty
+fixings_in (cell ∷ rest) = with_cell cell.0 cell.1 (fixings_in rest)
+
+-- past fixings, and the as-of date up to which a run takes them
+pub record Past : Type 0 where
+  pub asof : Day
+  pub cells : Cells
+
+-- a date that isn't after the as-of date
+abbrev pub is_past : Day → Day → Bool
+is_past asof date = int_le (day_number date) (day_number asof)
+
+-- the fixings of a run over a row: the past ones at dates that aren't after the as-of date, and the row's after it; without a past the row's
+abbrev pub fixings_of : Option Past → Cells → Fixings
+fixings_of None row = fixings_in row
+fixings_of (Some past) row =
+    fixings_in (filter (λ cell. is_past past.asof cell.0) past.cells ++ filter (λ cell. not (is_past past.asof cell.0)) row)

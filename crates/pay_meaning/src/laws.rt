@@ -2,6 +2,7 @@
 
 ghost use Rattle.pay_meaning.specs.Laws.{MeaningOfParts, MeaningReadsOwnDates, EffectReadsOwnVariables, ComparisonIsTrueWhereItHolds};
 ghost use Rattle.pay_meaning.specs.Laws.{TruthOfSides, ChoiceIsOneBranch, LastStatementFollows, OrderIsUnique, SharedDateIsEarliest};
+ghost use Rattle.pay_meaning.specs.Laws.{FixingIsPastOrTheRows};
 
 /// The meaning of a list of events is that of its front, and then that of the rest from the front's last variables.
 pub fn meaning_of_parts()
@@ -11,6 +12,11 @@ pub fn meaning_of_parts()
 /// A meaning reads the fixings at its events' dates alone.
 pub fn meaning_reads_own_dates()
     ensures { MeaningReadsOwnDates }
+{}
+
+/// The fixing of a run is the past one at a date that isn't after the as-of date, and the row's at each later date.
+pub fn fixing_is_past_or_the_rows()
+    ensures { FixingIsPastOrTheRows }
 {}
 
 /// An effect reads no more than its moment and the variables that its statements name, and changes no others.
