@@ -1,0 +1,17 @@
+pub mod BlankLemmas
+pub mod CsvLemmas
+pub mod ReadLemmas
+pub mod FieldLemmas
+pub mod Refusals
+pub mod NewDays
+pub mod DayMaps
+pub mod TableLemmas
+pub mod PastLemmas
+pub mod FieldLaws
+pub mod Asking
+pub mod FieldFaults
+pub mod TableLaws
+pub mod TableFaults
+pub mod PastLaws
+pub mod PastFaults
+pub mod OrderLaws
