@@ -1,0 +1,2 @@
+-- What the contract of `pay_machine` cites.
+pub mod Outcomes

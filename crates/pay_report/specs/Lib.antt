@@ -1,0 +1,3 @@
+-- What the contract of `pay_report` cites.
+pub mod Detail
+pub mod Lines
