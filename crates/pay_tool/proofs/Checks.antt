@@ -1,7 +1,7 @@
--- A script and a table are accepted, and refused, exactly for their causes.
-use Rattle.std.proofs.Common.{◌≡◌, ℕ, ◌≤◌, ◌<◌, nat_le, Bool, inl, inr, true, false, List, ◌∷◌, length, Option, Some, None, Result, Ok}
+-- A script is accepted, and refused, exactly for its causes.
+use Rattle.std.proofs.Common.{◌≡◌, ℕ, ◌≤◌, nat_le, Bool, inl, inr, true, false, List, ◌∷◌, length, Option, Some, None, Result, Ok}
 use Rattle.std.proofs.Common.{Err, if◌then◌else◌, ℤ, ◌≤ℤ◌, refl, sym, ap, subst, arith, ◌∙◌}
-use Rattle.std.proofs.lemmas.Bool.{cases_Bool, leb-true, leb-false, le-leb}
+use Rattle.std.proofs.lemmas.Bool.{cases_Bool, leb-true, leb-false, le-leb, lt-leb}
 use Rattle.std.proofs.lemmas.Int.{ints}
 use Rattle.std.specs.Option.{option_map}
 use Rattle.pay_dates.specs.Days.{day_number}
@@ -30,45 +30,35 @@ use Rattle.pay_roll.specs.declared.refusal.What.TheVariants.{Events}
 use Rattle.pay_roll.specs.Rolling.{first_bad, first_of}
 use Rattle.pay_tool.specs.declared.refusal.Refusal.{Refusal}
 use Rattle.pay_tool.specs.declared.refusal.Refusal.TheVariants.{BadSchedule, SameDate, TooMany}
-use Rattle.pay_tool.specs.TableReading.{scenarios_in}
 use Rattle.pay_tool.specs.Limits.{event_limit, refusal_beyond, part_refusals, HasGoodSchedules, KeepsLimits}
 use Rattle.pay_tool.specs.Trades.{Trade, trade_of}
-use Rattle.pay_tool.specs.Tables.{Table, SpellsTable}
-use Rattle.pay_tool.specs.Answers.{Input, not_there, bad, good, unless, parsed_input, lexed_input, checked_script, checked_table, table_if}
+use Rattle.pay_tool.specs.Answers.{Input, not_there, bad, good, unless, parsed_input, lexed_input, checked_script}
 use Rattle.pay_tool.specs.CheckLaws.{Spells, SpellsFew, HasDistinctDates, IsScriptText, IsScriptFault, bad_byte, too_large, too_deep, no_script}
-use Rattle.pay_tool.specs.CheckLaws.{bad_schedule, too_many_events, same_date, too_many_parts, IsTableFault, no_table, ScriptAcceptanceHasCause}
-use Rattle.pay_tool.specs.CheckLaws.{ScriptRefusalHasCause, TableAcceptanceHasCause, TableRefusalHasCause}
+use Rattle.pay_tool.specs.CheckLaws.{bad_schedule, too_many_events, same_date, too_many_parts, ScriptAcceptanceHasCause}
+use Rattle.pay_tool.specs.CheckLaws.{ScriptRefusalHasCause}
 use Rattle.pay_tool.specs.Stops.{Stops, StopsScript, stop_of_lexing, stop_of_parsing}
 use Rattle.pay_tool.proofs.Rolled.{own, own_refusals, none_bad, all_good}
-use Rattle.pay_tool.proofs.TableSound.{table_is_spelled}
-use Rattle.pay_tool.proofs.TableComplete.{spelled_table_is_read}
 
--- an input has its cause in the bytes
-abbrev HasCause : {A : Type 0} → (List ℕ → A → Type 0) → (List ℕ → Refusal → Type 0) → List ℕ → Input A → Type 0
-HasCause Gives HasFault bytes not_there = ⊥
-HasCause Gives HasFault bytes (bad refusal) = HasFault bytes refusal
-HasCause Gives HasFault bytes (good value) = Gives bytes value
-
+-- a script's input has its cause in the bytes
 abbrev ScriptCause : List ℕ → Input Trade → Type 0
-ScriptCause bytes input = HasCause IsScriptText IsScriptFault bytes input
-
--- a test that fails
-pub beyond-leb : (n limit : ℕ) → limit < n → nat_le n limit ≡ false
-beyond-leb n limit h = elim (cases_Bool (nat_le n limit)) [
-  | inl hit ↦ absurd (omega (arith, leb-true n limit hit))
-  | inr miss ↦ miss
-]
+ScriptCause bytes not_there = ⊥
+ScriptCause bytes (bad refusal) = IsScriptFault bytes refusal
+ScriptCause bytes (good trade) = IsScriptText bytes trade
 
 -- where nothing is refused no count is beyond its limit
-within_of : (what : What) (limit count : ℕ) (rest : List (Option Refusal)) → first_of (refusal_beyond what limit count ∷ rest) ≡ None → (count ≤ limit) × (first_of rest ≡ None)
+within_of : (what : What) (limit count : ℕ) (rest : List (Option Refusal)) → first_of (refusal_beyond what limit count ∷ rest) ≡ None
+    → (count ≤ limit) × (first_of rest ≡ None)
 within_of what limit count rest e = elim (cases_Bool (nat_le count limit)) [
   | inl hit ↦ (leb-true count limit hit, rw hit at e)
   | inr miss ↦ absurd (let found : Some (TooMany what limit) ≡ None = rw miss at e in cc)
 ]
 
-none_beyond : (what : What) (limit count : ℕ) (rest : List (Option Refusal)) → count ≤ limit → first_of (refusal_beyond what limit count ∷ rest) ≡ first_of rest
+-- a count that is not beyond its limit is no refusal
+none_beyond : (what : What) (limit count : ℕ) (rest : List (Option Refusal)) → count ≤ limit
+    → first_of (refusal_beyond what limit count ∷ rest) ≡ first_of rest
 none_beyond what limit count rest h = rw (le-leb count limit h) refl
 
+-- a script keeps its limits where none of its parts is refused
 keeps_of : (script : Script) → first_of (part_refusals script) ≡ None → KeepsLimits script
 keeps_of script e =
     let nodes = within_of _ _ _ _ e in
@@ -77,6 +67,7 @@ keeps_of script e =
     let legs = within_of _ _ _ _ variables.1 in
     record { nodes = nodes.0; payments = payments.0; variables = variables.0; legs = legs.0 }
 
+-- and none is refused where it keeps them
 none_refused : (script : Script) → KeepsLimits script → first_of (part_refusals script) ≡ None
 none_refused script k =
     none_beyond _ _ _ _ k.nodes ∙ none_beyond _ _ _ _ k.payments ∙ none_beyond _ _ _ _ k.variables ∙ none_beyond _ _ _ _ k.legs
@@ -130,14 +121,17 @@ from_grammar bytes tokens t within (Some script) e =
     subst (λ (refusals : List (Option Refusal)). ScriptCause bytes (unless (first_of refusals) (trade_of script))) (sym (own script))
     (from_schedules bytes tokens script s (first_bad 1 script) refl)
 from_grammar bytes tokens t within None e =
-    no_script tokens t within (λ script spelled. let read = spelled_script_is_read (kinds tokens) script spelled in absurd (let found : None ≡ Some script = sym e ∙ read in cc))
+    no_script tokens t within (λ script spelled.
+    let read = spelled_script_is_read (kinds tokens) script spelled in absurd (let found : None ≡ Some script = sym e ∙ read in cc))
 
--- from the limits of tokens
-from_depths : (bytes : List ℕ) (tokens : List Token) → SpellsTokens bytes tokens → first_too_large tokens ≡ None → (found : Option Token) → first_too_deep tokens ≡ found
+-- from the depths of tokens
+from_depths : (bytes : List ℕ) (tokens : List Token) → SpellsTokens bytes tokens → first_too_large tokens ≡ None
+    → (found : Option Token) → first_too_deep tokens ≡ found
     → ScriptCause bytes (parsed_input (judged None (start_of found) (script_in (kinds tokens))))
 from_depths bytes tokens t large (Some deep) e = too_deep tokens deep t large e
 from_depths bytes tokens t large None e = from_grammar bytes tokens t (record { sizes = large; depths = e }) (script_in (kinds tokens)) refl
 
+-- from the sizes of tokens
 from_sizes : (bytes : List ℕ) (tokens : List Token) → SpellsTokens bytes tokens → (found : Option Token) → first_too_large tokens ≡ found
     → ScriptCause bytes (parsed_input (judged (start_of found) (start_of (first_too_deep tokens)) (script_in (kinds tokens))))
 from_sizes bytes tokens t (Some large) e = too_large tokens large t e
@@ -154,15 +148,16 @@ script_cause : (bytes : List ℕ) → ScriptCause bytes (checked_script bytes)
 unfolding checked_script
 script_cause bytes = from_tokens bytes (tokens_in bytes) refl
 
--- and it is there
+-- so its file is there
 pub script_there : (bytes : List ℕ) → checked_script bytes ≡ not_there → ⊥
 script_there bytes e = subst (ScriptCause bytes) e (script_cause bytes)
 
--- no date is found where none is shared, and the earliest that is shared is found
+-- no date is found where none is shared
 none_found : (events : List Event) (found : Option Day) → shared_date (in_order events) ≡ found → ((number : ℤ) → ¬ IsShared number events) → found ≡ None
 none_found events None e none = refl
 none_found events (Some date) e none = absurd (none _ (shared-earliest.found events date e).shared)
 
+-- and the earliest that is shared is the one that is found
 found_date : (events : List Event) (date : Day) (found : Option Day) → shared_date (in_order events) ≡ found → IsEarliestShared events date → found ≡ Some date
 found_date events date None e earliest = absurd (shared-earliest.none events e (day_number date) earliest.shared)
 found_date events date (Some found) e earliest =
@@ -192,7 +187,7 @@ spelled_judged bytes tokens script s =
     spelled_gives bytes tokens script s ∙ ap (λ (refusals : List (Option Refusal)). unless (first_of refusals) (trade_of script)) (own script)
 
 -- a script that keeps its limits is accepted
-pub script_accepted : (bytes : List ℕ) (trade : Trade) → IsScriptText bytes trade → checked_script bytes ≡ good trade
+script_accepted : (bytes : List ℕ) (trade : Trade) → IsScriptText bytes trade → checked_script bytes ≡ good trade
 script_accepted bytes trade k =
     let schedules = all_good 1 k.script k.schedules in
     let few = le-leb _ _ k.few_events in
@@ -211,7 +206,7 @@ script_refused bytes _ (no_script tokens s within none) =
     rw (spelled_tokens_are_read bytes tokens s, within.sizes, within.depths, r) refl
 script_refused bytes _ (bad_schedule tokens script item s found) = spelled_judged bytes tokens script s ∙ rw found refl
 script_refused bytes _ (too_many_events tokens script s schedules many) =
-    spelled_judged bytes tokens script s ∙ rw (all_good 1 script schedules, beyond-leb _ _ many) refl
+    spelled_judged bytes tokens script s ∙ rw (all_good 1 script schedules, lt-leb _ _ many) refl
 script_refused bytes _ (same_date tokens script date s earliest) =
     let found = found_date (all_events script) date (shared_date (events_of script)) refl earliest in
     spelled_judged bytes tokens script s.spells ∙ rw (all_good 1 script s.schedules, le-leb _ _ s.few_events, found) refl
@@ -219,43 +214,13 @@ script_refused bytes _ (too_many_parts tokens script refusal s dates e) =
     let none = none_found (all_events script) (shared_date (events_of script)) refl dates in
     spelled_judged bytes tokens script s.spells ∙ rw (all_good 1 script s.schedules, le-leb _ _ s.few_events, none, e) refl
 
--- a text that is read as this table spells it
-from_table : (bytes : List ℕ) (read : Option Table) → scenarios_in bytes ≡ read → HasCause SpellsTable IsTableFault bytes (table_if read)
-from_table bytes (Some table) e = table_is_spelled bytes table e
-from_table bytes None e =
-    no_table (λ table spelled. absurd (let found : None ≡ Some table = sym e ∙ spelled_table_is_read bytes table spelled in cc))
-
-table_cause : (bytes : List ℕ) → HasCause SpellsTable IsTableFault bytes (checked_table bytes)
-unfolding checked_table
-table_cause bytes = from_table bytes (scenarios_in bytes) refl
-
-pub table_there : (bytes : List ℕ) → checked_table bytes ≡ not_there → ⊥
-table_there bytes e = subst (HasCause SpellsTable IsTableFault bytes) e (table_cause bytes)
-
--- a text that spells a table is accepted
-pub table_accepted : (bytes : List ℕ) (table : Table) → SpellsTable bytes table → checked_table bytes ≡ good table
-unfolding checked_table
-table_accepted bytes table spelled = rw (spelled_table_is_read bytes table spelled) refl
-
-none_table : (bytes : List ℕ) (read : Option Table) → scenarios_in bytes ≡ read → ((table : Table) → ¬ SpellsTable bytes table) → read ≡ None
-none_table bytes None e none = refl
-none_table bytes (Some table) e none = absurd (none table (table_is_spelled bytes table e))
-
-table_refused : (bytes : List ℕ) (refusal : Refusal) → IsTableFault bytes refusal → checked_table bytes ≡ bad refusal
-unfolding checked_table
-table_refused bytes _ (no_table none) = rw (none_table bytes (scenarios_in bytes) refl none) refl
-
+-- a script is accepted exactly where it keeps its limits
 pub script_acceptance : ScriptAcceptanceHasCause
 script_acceptance bytes trade = ((λ e. subst (ScriptCause bytes) e (script_cause bytes)), script_accepted bytes trade)
 
+-- and refused exactly for its fault
 pub script_refusal : ScriptRefusalHasCause
 script_refusal bytes refusal = ((λ e. subst (ScriptCause bytes) e (script_cause bytes)), script_refused bytes refusal)
-
-pub table_acceptance : TableAcceptanceHasCause
-table_acceptance bytes table = ((λ e. subst (HasCause SpellsTable IsTableFault bytes) e (table_cause bytes)), table_accepted bytes table)
-
-pub table_refusal : TableRefusalHasCause
-table_refusal bytes refusal = ((λ e. subst (HasCause SpellsTable IsTableFault bytes) e (table_cause bytes)), table_refused bytes refusal)
 
 -- a text that was not cut into tokens stops its check
 pub lexing_stops : (text : List ℕ) (fault : LexFault) → IsCause text fault → StopsScript text (stop_of_lexing fault)

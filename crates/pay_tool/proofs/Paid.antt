@@ -1,39 +1,42 @@
 -- A report that was given is what the script means in each scenario.
-use Rattle.std.proofs.Common.{◌≡◌, ℕ, Bool, true, false, List, ◌++◌, length, nat_le, Option, Some, None, IfSome, if◌then◌else◌, refl, sym, ap, ◌∙◌}
-use Rattle.std.specs.FinMap.{get}
-use Rattle.pay_edge.specs.Edge.{Files, Long, Bytes, whole_from, appended}
-use Rattle.pay_tool.specs.Tables.{Table}
-use Rattle.pay_tool.specs.Report.{report_text}
+use Rattle.std.proofs.Common.{◌≡◌, ℕ, ◌≤◌, List, ◌++◌, length, Option, Some, None, IfSome, sym, ap, subst, ◌∙◌}
+use Rattle.pay_edge.specs.Edge.{Files}
+use Rattle.pay_meaning.specs.Meaning.{Past}
+use Rattle.pay_report.specs.Detail.{report_text}
+use Rattle.pay_tables.specs.Tables.{Table}
+use Rattle.pay_tool.specs.declared.refusal.Refusal.{Refusal}
 use Rattle.pay_tool.specs.Trades.{Trade}
-use Rattle.pay_tool.specs.Requests.{Asked, run, check_of, list_of, request_of}
-use Rattle.pay_tool.specs.Answers.{Input, not_there, bad, good, input_of, checked_script, checked_table, script_limit, table_limit, script_of}
-use Rattle.pay_tool.specs.Answers.{table_of, run_script, run_table, answer_of}
+use Rattle.pay_tool.specs.Requests.{PastWords, RunWords, run, request_of}
+use Rattle.pay_tool.specs.Answers.{good, Answer, answer_of}
 use Rattle.pay_tool.specs.Causes.{IsGiven}
-use Rattle.pay_tool.specs.Headline.{AsksRun, PaysAsMeant}
-use Rattle.pay_tool.proofs.Checks.{script_acceptance, table_acceptance}
+use Rattle.pay_tool.specs.Headline.{AsksRun, KnowsPast, knows_none, knows, PaysAsMeant}
+use Rattle.pay_tool.specs.ToolLaws.{IsInput, with_value, IsScriptInput, IsTableInput, GivesPast, gives_none, gives_past, AsksAbout, about_counts}
+use Rattle.pay_tool.specs.ToolLaws.{about_events, IsAnswer, without_request, script_absent, script_refused, past_absent, past_refused, scenarios_absent}
+use Rattle.pay_tool.specs.ToolLaws.{scenarios_refused, accepted, about_absent, about_refused, about_accepted}
+use Rattle.pay_tool.proofs.OneAnswer.{one_answer}
 
--- an input that is good is a file whose bytes are good
-file_within : {A : Type 0} (check : List ℕ → Input A) (limit : ℕ) (bytes : List ℕ) (value : A) (b : Bool)
-    → input_of limit check (if b then Bytes bytes else Long) ≡ good value → check bytes ≡ good value
-file_within check limit bytes value true e = e
-file_within check limit bytes value false e = cc
+-- a good input is a file whose bytes give the value
+file_of : {A : Type 0} (Gives : List ℕ → A → Type 0) (HasFault : List ℕ → Refusal → Type 0) (limit : ℕ) (file : Option (List ℕ)) (value : A)
+    → IsInput Gives HasFault limit file (good value) → (bytes : List ℕ) × (file ≡ Some bytes) × (length bytes ≤ limit) × Gives bytes value
+file_of Gives HasFault limit file _ (with_value bytes value is small gives) = (bytes, is, small, gives)
 
-file_good : {A : Type 0} (check : List ℕ → Input A) (file : Option (List ℕ)) (limit : ℕ) (value : A) → input_of limit check (whole_from file limit) ≡ good value
-    → (bytes : List ℕ) × (file ≡ Some bytes) × (check bytes ≡ good value)
-file_good check None limit value e = cc
-file_good check (Some bytes) limit value e = (bytes, refl, file_within check limit bytes value (nat_le (length bytes) limit) e)
+-- the past fixings that files give are those that a run knows
+past_known : (files : Files) (asked : Option PastWords) (past : Option Past) → GivesPast files asked past → KnowsPast files asked past
+past_known files _ _ gives_none = knows_none
+past_known files _ _ (gives_past words cells input) =
+    let file = file_of _ _ _ _ cells input in
+    knows words file.0 cells file.1 file.2 file.3
 
 -- the parts of the headline
-paid_of : (words : List (List ℕ)) (files : Files) (before after : List ℕ) (script_name table_name : List ℕ) (trade : Trade) (table : Table)
-    → request_of words ≡ Some (run script_name table_name) → script_of files script_name ≡ good trade → table_of files table_name ≡ good table
-    → after ≡ before ++ report_text trade.events table → PaysAsMeant words files before after
-paid_of words files before after script_name table_name trade table asks s t text =
-    let script_file = file_good checked_script (get files script_name) script_limit trade s in
-    let table_file = file_good checked_table (get files table_name) table_limit table t in
-    let read = (script_acceptance script_file.0 trade).0 script_file.2 in
+paid_of : (words : List (List ℕ)) (files : Files) (before after : List ℕ) (asked : RunWords) (trade : Trade) (past : Option Past) (table : Table)
+    → request_of words ≡ Some (run asked) → IsScriptInput files asked.script (good trade) → GivesPast files asked.past past
+    → IsTableInput files asked.scenarios (good table) → after ≡ before ++ report_text trade.events past table → PaysAsMeant words files before after
+paid_of words files before after asked trade past table asks script_input gives table_input text =
+    let script_file = file_of _ _ _ _ trade script_input in
+    let table_file = file_of _ _ _ _ table table_input in
+    let read = script_file.3 in
     record {
-      script_name = script_name;
-      table_name = table_name;
+      asked = asked;
       asks = asks;
       script_bytes = script_file.0;
       script_file = script_file.1;
@@ -45,35 +48,33 @@ paid_of words files before after script_name table_name trade table asks s t tex
       spells_script = read.spells.spells_script;
       schedules = read.schedules;
       dates = read.dates;
+      past = past;
+      knows_past = past_known files asked.past past gives;
       table = table;
-      spells_table = (table_acceptance table_file.0 table).0 table_file.2;
-      text = text ∙ ap (λ (x : Trade). before ++ report_text x.events table) (sym read.has);
+      spells_table = table_file.3;
+      text = text ∙ ap (λ (x : Trade). before ++ report_text x.events past table) (sym read.has);
     }
 
-by_table : (words : List (List ℕ)) (told : Files) (before after : List ℕ) (script_name table_name : List ℕ) (trade : Trade) (input : Input Table)
-    → request_of words ≡ Some (run script_name table_name) → script_of told script_name ≡ good trade → table_of told table_name ≡ input
-    → IsGiven (run_table trade table_name input) (Some before) (Some after) → PaysAsMeant words told before after
-by_table words told before after script_name table_name trade not_there asks s t given = absurd given
-by_table words told before after script_name table_name trade (bad refusal) asks s t given = absurd given
-by_table words told before after script_name table_name trade (good table) asks s t given =
-    let text : Some after ≡ appended (Some before) (report_text trade.events table) = given in
-    paid_of words told before after script_name table_name trade table asks s t cc
+-- words that ask about a script ask for no run
+no_run : (words : List (List ℕ)) (name : List ℕ) (text : Trade → List ℕ) → AsksAbout words name text → AsksRun (request_of words) → ⊥
+no_run words _ _ (about_counts name asks) runs = subst AsksRun asks runs
+no_run words _ _ (about_events name asks) runs = subst AsksRun asks runs
 
-by_script : (words : List (List ℕ)) (told : Files) (before after : List ℕ) (script_name table_name : List ℕ) (input : Input Trade)
-    → request_of words ≡ Some (run script_name table_name) → script_of told script_name ≡ input
-    → IsGiven (run_script script_name input table_name (table_of told table_name)) (Some before) (Some after) → PaysAsMeant words told before after
-by_script words told before after script_name table_name not_there asks s given = absurd given
-by_script words told before after script_name table_name (bad refusal) asks s given = absurd given
-by_script words told before after script_name table_name (good trade) asks s given =
-    by_table words told before after script_name table_name trade (table_of told table_name) asks s refl given
-
-by_request : (words : List (List ℕ)) (told : Files) (before after : List ℕ) (asked : Option Asked) → request_of words ≡ asked → AsksRun asked
-    → IsGiven (answer_of asked told) (Some before) (Some after) → PaysAsMeant words told before after
-by_request words told before after None asks runs given = absurd runs
-by_request words told before after (Some (run script_name table_name)) asks runs given =
-    by_script words told before after script_name table_name (script_of told script_name) asks refl given
-by_request words told before after (Some (check_of script_name)) asks runs given = absurd runs
-by_request words told before after (Some (list_of script_name)) asks runs given = absurd runs
+-- an answer to a run that was given is the report of accepted inputs
+paid_by : (words : List (List ℕ)) (files : Files) (before after : List ℕ) (answer : Answer) → IsAnswer words files answer → AsksRun (request_of words)
+    → IsGiven answer (Some before) (Some after) → PaysAsMeant words files before after
+paid_by words files before after _ (without_request asks) runs given = absurd given
+paid_by words files before after _ (script_absent asked asks script) runs given = absurd given
+paid_by words files before after _ (script_refused asked refusal asks script) runs given = absurd given
+paid_by words files before after _ (past_absent asked trade past asks script is input) runs given = absurd given
+paid_by words files before after _ (past_refused asked trade past refusal asks script is input) runs given = absurd given
+paid_by words files before after _ (scenarios_absent asked trade past asks script gives table) runs given = absurd given
+paid_by words files before after _ (scenarios_refused asked trade past refusal asks script gives table) runs given = absurd given
+paid_by words files before after _ (accepted asked trade past table asks script gives input) runs given =
+    paid_of words files before after asked trade past table asks script gives input cc
+paid_by words files before after _ (about_absent name text asks script) runs given = absurd given
+paid_by words files before after _ (about_refused name text refusal asks script) runs given = absurd given
+paid_by words files before after _ (about_accepted name text trade asks script) runs given = absurd (no_run words name text asks runs)
 
 -- what was given, where the files and the text are told
 pub paid : (words : List (List ℕ)) (files : Option Files) (text text' : Option (List ℕ)) → AsksRun (request_of words)
@@ -82,4 +83,5 @@ pub paid : (words : List (List ℕ)) (files : Option Files) (text text' : Option
 paid words None text text' runs given = tt
 paid words (Some told) None text' runs given = tt
 paid words (Some told) (Some before) None runs given = tt
-paid words (Some told) (Some before) (Some after) runs given = by_request words told before after (request_of words) refl runs given
+paid words (Some told) (Some before) (Some after) runs given =
+    paid_by words told before after (answer_of (request_of words) told) (one_answer words told).given runs given

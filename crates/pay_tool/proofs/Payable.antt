@@ -1,20 +1,15 @@
--- The answer to a script of the grammar and a table is a report.
-use Rattle.std.proofs.Common.{◌≡◌, ℕ, ◌≤◌, List, length, Option, Some, None, IsSomeAnd, refl, ◌∙◌}
-use Rattle.std.proofs.lemmas.Bool.{le-leb}
-use Rattle.std.specs.FinMap.{get}
-use Rattle.pay_edge.specs.Edge.{Files, whole_from}
+-- The answer to a script of the grammar, a table and past fixings is a report.
+use Rattle.std.proofs.Common.{ℕ, List, Option, Some, None, IsSomeAnd, refl, subst}
+use Rattle.pay_edge.specs.Edge.{Files}
+use Rattle.pay_meaning.specs.Meaning.{Past}
 use Rattle.pay_tool.specs.Trades.{trade_of}
-use Rattle.pay_tool.specs.Requests.{request_of}
-use Rattle.pay_tool.specs.Answers.{Input, good, input_of, checked_script, checked_table, script_limit, table_limit, script_of, table_of, answer_of}
+use Rattle.pay_tool.specs.Requests.{PastWords, request_of}
+use Rattle.pay_tool.specs.Answers.{answer_of}
 use Rattle.pay_tool.specs.Causes.{IsReport}
 use Rattle.pay_tool.specs.CheckLaws.{IsScriptText}
-use Rattle.pay_tool.specs.Headline.{IsPayable}
-use Rattle.pay_tool.proofs.Checks.{script_accepted, table_accepted}
-
--- a file that is not too long is taken whole
-whole_file : {A : Type 0} (check : List ℕ → Input A) (file : Option (List ℕ)) (bytes : List ℕ) (limit : ℕ) → file ≡ Some bytes → length bytes ≤ limit
-    → input_of limit check (whole_from file limit) ≡ check bytes
-whole_file check file bytes limit e h = rw (e, le-leb _ _ h) refl
+use Rattle.pay_tool.specs.Headline.{KnowsPast, knows_none, knows, IsPayable}
+use Rattle.pay_tool.specs.ToolLaws.{with_value, GivesPast, gives_none, gives_past, accepted}
+use Rattle.pay_tool.proofs.OneAnswer.{one_answer}
 
 -- the script of words and files that ask for a report
 payable_script : (words : List (List ℕ)) (files : Files) (p : IsPayable words files) → IsScriptText p.script_bytes (trade_of p.script)
@@ -29,16 +24,18 @@ payable_script words files p = record {
   has = refl;
 }
 
+-- the past fixings that a run knows are given by the files
+past_given : (files : Files) (asked : Option PastWords) (past : Option Past) → KnowsPast files asked past → GivesPast files asked past
+past_given files _ _ knows_none = gives_none
+past_given files _ _ (knows words bytes cells file short spells) = gives_past words cells (with_value bytes cells file short spells)
+
 -- so the answer is a report
-pub payable_report : (words : List (List ℕ)) (files : Files) → IsPayable words files → IsReport (answer_of (request_of words) files)
+payable_report : (words : List (List ℕ)) (files : Files) → IsPayable words files → IsReport (answer_of (request_of words) files)
 payable_report words files p =
-    let script : script_of files p.script_name ≡ good (trade_of p.script) =
-    whole_file checked_script (get files p.script_name) p.script_bytes script_limit p.script_file p.script_short
-    ∙ script_accepted p.script_bytes (trade_of p.script) (payable_script words files p) in
-    let table : table_of files p.table_name ≡ good p.table =
-    whole_file checked_table (get files p.table_name) p.table_bytes table_limit p.table_file p.table_short
-    ∙ table_accepted p.table_bytes p.table p.spells_table in
-    rw (p.asks, script, table) tt
+    let script = with_value p.script_bytes (trade_of p.script) p.script_file p.script_short (payable_script words files p) in
+    let table = with_value p.table_bytes p.table p.table_file p.table_short p.spells_table in
+    let answer = accepted p.asked (trade_of p.script) p.past p.table p.asks script (past_given files p.asked.past p.past p.knows_past) table in
+    subst IsReport ((one_answer words files).only _ answer) tt
 
 -- the same where the files are told
 pub payable_reports : (words : List (List ℕ)) (told : Option Files) → IsSomeAnd told (λ files. IsPayable words files)

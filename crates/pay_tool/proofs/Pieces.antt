@@ -3,9 +3,9 @@ use Rattle.std.proofs.Common.{◌≡◌, ℕ, ◌+◌, ◌<◌, List, ◌++◌, 
 use Rattle.std.proofs.Common.{append_assoc}
 use Rattle.std.proofs.lemmas.List.{length-map, drop_more, get_or-map}
 use Rattle.std.specs.List.{flat_map}
-use Rattle.pay_tool.specs.declared.scenarios.ScenarioRow.{ScenarioRow}
-use Rattle.pay_tool.specs.Tables.{Row}
-use Rattle.pay_tool.specs.TableViews.{row}
+use Rattle.pay_tables.specs.declared.scenarios.ScenarioRow.{ScenarioRow}
+use Rattle.pay_tables.specs.Tables.{Row}
+use Rattle.pay_tables.specs.Views.{row}
 use Rattle.std.specs.declared.option.Option.{Option}
 use Rattle.std.specs.declared.option.Option.TheVariants.{None, Some}
 use Rattle.pay_edge.specs.Edge.{appended, AppendsFront}
@@ -41,7 +41,8 @@ front_after old first second put f = record {
 }
 
 -- a piece more was put
-put_more : (old now new : Option (List ℕ)) (piece remaining whole : List ℕ) → HasPut old now (piece ++ remaining) whole → new ≡ appended now piece → HasPut old new remaining whole
+put_more : (old now new : Option (List ℕ)) (piece remaining whole : List ℕ) → HasPut old now (piece ++ remaining) whole → new ≡ appended now piece
+    → HasPut old new remaining whole
 put_more old now new piece remaining whole h e = record {
   front = h.front ++ piece;
   split = append_assoc h.front piece remaining ∙ h.split;
@@ -49,11 +50,13 @@ put_more old now new piece remaining whole h e = record {
 }
 
 -- a front of the next piece was put, which is a front of the whole
-put_part : (old now new : Option (List ℕ)) (piece remaining whole : List ℕ) → HasPut old now (piece ++ remaining) whole → AppendsFront now new piece → AppendsFront old new whole
+put_part : (old now new : Option (List ℕ)) (piece remaining whole : List ℕ) → HasPut old now (piece ++ remaining) whole → AppendsFront now new piece
+    → AppendsFront old new whole
 put_part old now new piece remaining whole h f = record {
   front = h.front ++ f.front;
   rest = f.rest ++ remaining;
-  split = append_assoc h.front f.front (f.rest ++ remaining) ∙ ap (λ xs. h.front ++ xs) (sym (append_assoc f.front f.rest remaining) ∙ ap (λ xs. xs ++ remaining) f.split) ∙ h.split;
+  split = append_assoc h.front f.front (f.rest ++ remaining)
+      ∙ ap (λ xs. h.front ++ xs) (sym (append_assoc f.front f.rest remaining) ∙ ap (λ xs. xs ++ remaining) f.split) ∙ h.split;
   text = f.text ∙ ap (λ (t : Option (List ℕ)). appended t f.front) h.text ∙ appended_in_turn old h.front f.front;
 }
 
@@ -65,28 +68,31 @@ rows_split f rows i r h e =
     ∙ ap (λ (x : ScenarioRow). f (row x) ++ flat_map f (map row (drop (i + 1) rows))) (sym e)
 
 -- the lines of a row were put
-pub row_put : (old now new : Option (List ℕ)) (f : Row → List ℕ) (rows : List ScenarioRow) (i : ℕ) (r : ScenarioRow) (whole : List ℕ) → i < length rows → r ≡ get_or rows i r
-    → HasPut old now (flat_map f (map row (drop i rows))) whole → new ≡ appended now (f (row r)) → HasPut old new (flat_map f (map row (drop (i + 1) rows))) whole
+pub row_put : (old now new : Option (List ℕ)) (f : Row → List ℕ) (rows : List ScenarioRow) (i : ℕ) (r : ScenarioRow) (whole : List ℕ)
+    → i < length rows → r ≡ get_or rows i r → HasPut old now (flat_map f (map row (drop i rows))) whole → new ≡ appended now (f (row r))
+    → HasPut old new (flat_map f (map row (drop (i + 1) rows))) whole
 row_put old now new f rows i r whole h e put same =
     put_more old now new (f (row r)) (flat_map f (map row (drop (i + 1) rows))) whole
     (subst (λ (xs : List ℕ). HasPut old now xs whole) (rows_split f rows i r h e) put) same
 
 -- a front of the lines of a row was put
-pub row_part : (old now new : Option (List ℕ)) (f : Row → List ℕ) (rows : List ScenarioRow) (i : ℕ) (r : ScenarioRow) (whole : List ℕ) → i < length rows → r ≡ get_or rows i r
-    → HasPut old now (flat_map f (map row (drop i rows))) whole → AppendsFront now new (f (row r)) → AppendsFront old new whole
+pub row_part : (old now new : Option (List ℕ)) (f : Row → List ℕ) (rows : List ScenarioRow) (i : ℕ) (r : ScenarioRow) (whole : List ℕ)
+    → i < length rows → r ≡ get_or rows i r → HasPut old now (flat_map f (map row (drop i rows))) whole → AppendsFront now new (f (row r))
+    → AppendsFront old new whole
 row_part old now new f rows i r whole h e put front =
     put_part old now new (f (row r)) (flat_map f (map row (drop (i + 1) rows))) whole
     (subst (λ (xs : List ℕ). HasPut old now xs whole) (rows_split f rows i r h e) put) front
 
 -- a row has as many cells as all rows have
-pub full_at : (rows : List ScenarioRow) (n i : ℕ) (r : ScenarioRow) → All (λ (x : Row). length x.cells ≡ n) (map row rows) → i < length rows → r ≡ get_or rows i r
-    → length r.cells.items ≡ n
+pub full_at : (rows : List ScenarioRow) (n i : ℕ) (r : ScenarioRow) → All (λ (x : Row). length x.cells ≡ n) (map row rows) → i < length rows
+    → r ≡ get_or rows i r → length r.cells.items ≡ n
 full_at rows n i r full h e =
     let small : i < length (map row rows) = rw (length-map rows row) h in
     ap (λ (x : ScenarioRow). length x.cells.items) e ∙ ap (λ (x : Row). length x.cells) (sym (get_or-map row rows i r (row r) h)) ∙ full i (row r) small
 
 -- two pieces were put, and a third one where this is `Ok`
-pub put_thrice : {A E : Type 0} (r : Result A E) (old now middle new : Option (List ℕ)) (piece more last : List ℕ) → now ≡ appended old piece → middle ≡ appended now more
-    → OnOk r (new ≡ appended middle last) → OnOk r (new ≡ appended old (piece ++ (more ++ last)))
-put_thrice (Ok a) old now middle new piece more last first second third = appended_more old piece (more ++ last) first (appended_more now more last second third)
+pub put_thrice : {A E : Type 0} (r : Result A E) (old now middle new : Option (List ℕ)) (piece more last : List ℕ) → now ≡ appended old piece
+    → middle ≡ appended now more → OnOk r (new ≡ appended middle last) → OnOk r (new ≡ appended old (piece ++ (more ++ last)))
+put_thrice (Ok a) old now middle new piece more last first second third =
+    appended_more old piece (more ++ last) first (appended_more now more last second third)
 put_thrice (Err e) old now middle new piece more last first second third = third

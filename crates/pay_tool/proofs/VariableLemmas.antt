@@ -24,7 +24,8 @@ get-variables name (entry ∷ rest) =
     get-insert nat_list_cmp_total (variables_of rest) entry.0.now entry.1 name
     ∙ ap (cond (eq_by_cmp (slice_cmp nat_cmp) name entry.0.now) (Some entry.1)) (get-variables name rest)
 
-pub value-some : (name : List ℕ) (entries : List (Bor (List ℕ) × ℤ)) (raw : ℤ) → Some raw ≡ entry_at name entries → raw ≡ variable_at (variables_of entries) name
+pub value-some : (name : List ℕ) (entries : List (Bor (List ℕ) × ℤ)) (raw : ℤ) → Some raw ≡ entry_at name entries
+    → raw ≡ variable_at (variables_of entries) name
 value-some name entries raw found = ap (λ (o : Option ℤ). unwrap_or o (pos 0)) (found ∙ sym (get-variables name entries))
 
 pub value-none : (name : List ℕ) (entries : List (Bor (List ℕ) × ℤ)) → None ≡ entry_at name entries → pos 0 ≡ variable_at (variables_of entries) name

@@ -9,13 +9,18 @@ use Rattle.pay_parser.specs.declared.parse_fault.ParseFault.TheVariants as parsi
 use Rattle.pay_parser.specs.Parsing.{parsed}
 use Rattle.pay_roll.specs.Rolling.{first_of}
 use Rattle.pay_tool.specs.declared.refusal.Refusal.{Refusal}
-use Rattle.pay_tool.specs.declared.refusal.Refusal.TheVariants.{TooLong, BadByte, TooLarge, TooDeep, NotScript, NotTable}
+use Rattle.pay_tool.specs.declared.refusal.Refusal.TheVariants.{TooLong, BadByte, TooLarge, TooDeep, NotScript, TooMany, BadHeader, BadDate, RepeatedDate}
+use Rattle.pay_tool.specs.declared.refusal.Refusal.TheVariants.{BadRow, BadName, BadCell}
 use Rattle.pay_tool.specs.Limits.{script_refusals}
 use Rattle.pay_tool.specs.Trades.{Trade, trade_of, check_text, events_text}
-use Rattle.pay_tool.specs.Tables.{Table}
-use Rattle.pay_tool.specs.TableReading.{scenarios_in}
-use Rattle.pay_tool.specs.Report.{report_text}
-use Rattle.pay_tool.specs.Requests.{Asked, run, check_of, list_of}
+use Rattle.pay_meaning.specs.Meaning.{Cells, Past}
+use Rattle.pay_tables.specs.declared.refusal.TableRefusal.{TableRefusal}
+use Rattle.pay_tables.specs.declared.refusal.TableRefusal.TheVariants as tables
+use Rattle.pay_tables.specs.Tables.{Table}
+use Rattle.pay_tables.specs.ScenarioFile.{scenarios_in}
+use Rattle.pay_tables.specs.FixingsFile.{fixings_in}
+use Rattle.pay_report.specs.Detail.{report_text}
+use Rattle.pay_tool.specs.Requests.{Asked, PastWords, run, check_of, list_of}
 
 -- an input: its file is not there, or it is refused, or it is accepted and gives a value
 pub data Input (A : Type 0) : Type 0 where
@@ -56,23 +61,43 @@ lexed_input (Ok tokens) = parsed_input (parsed tokens)
 unfoldable pub checked_script : List ℕ → Input Trade
 checked_script bytes = lexed_input (tokens_in bytes)
 
-abbrev pub table_if : Option Table → Input Table
-table_if None = bad NotTable
-table_if (Some table) = good table
+-- why a file of scenarios or of past fixings is refused; want of memory is the refusal of none
+abbrev pub refusal_of_table : TableRefusal → Refusal
+refusal_of_table (tables.BadDate place) = BadDate place
+refusal_of_table (tables.SameDate place) = RepeatedDate place
+refusal_of_table (tables.BadRow row) = BadRow row
+refusal_of_table (tables.BadName row) = BadName row
+refusal_of_table (tables.BadCell row column) = BadCell row column
+refusal_of_table (tables.TooMany what limit) = TooMany what limit
+refusal_of_table refusal = BadHeader
 
--- the table of a text
+abbrev pub read_input : {A : Type 0} → Result A TableRefusal → Input A
+read_input (Err refusal) = bad (refusal_of_table refusal)
+read_input (Ok value) = good value
+
+-- the table of a scenario file
 unfoldable pub checked_table : List ℕ → Input Table
-checked_table bytes = table_if (scenarios_in bytes)
+checked_table bytes = read_input (scenarios_in bytes)
 
--- the greatest length of a script file and of a scenario file, in bytes
+-- the past fixings of a fixings file, in the order of the file
+unfoldable pub checked_fixings : List ℕ → Input Cells
+checked_fixings bytes = read_input (fixings_in bytes)
+
+-- the greatest length of a script file, of a fixings file and of a scenario file, in bytes
 abbrev pub script_limit : ℕ
 script_limit = 1_048_576
+
+abbrev pub fixings_limit : ℕ
+fixings_limit = 16_777_216
 
 abbrev pub table_limit : ℕ
 table_limit = 67_108_864
 
 abbrev pub script_of : Files → List ℕ → Input Trade
 script_of files name = input_of script_limit checked_script (whole_of files name script_limit)
+
+abbrev pub past_of : Files → List ℕ → Input Cells
+past_of files name = input_of fixings_limit checked_fixings (whole_of files name fixings_limit)
 
 abbrev pub table_of : Files → List ℕ → Input Table
 table_of files name = input_of table_limit checked_table (whole_of files name table_limit)
@@ -85,27 +110,26 @@ pub data Answer : Type 0 where
   refused : List ℕ → Refusal → Answer
   report : List ℕ → Answer
 
-abbrev pub run_table : Trade → List ℕ → Input Table → Answer
-run_table trade name not_there = absent name
-run_table trade name (bad refusal) = refused name refusal
-run_table trade name (good table) = report (report_text trade.events table)
+-- the answer by the input of this name: its file is not there; or it is refused; or it is accepted, and the answer is by its value
+abbrev pub answer_by : {A : Type 0} → List ℕ → Input A → (A → Answer) → Answer
+answer_by name not_there rest = absent name
+answer_by name (bad refusal) rest = refused name refusal
+answer_by name (good value) rest = rest value
 
-abbrev pub run_script : List ℕ → Input Trade → List ℕ → Input Table → Answer
-run_script script not_there name table = absent script
-run_script script (bad refusal) name table = refused script refusal
-run_script script (good trade) name table = run_table trade name table
+-- the answer by the past fixings that are asked for, up to their as-of date; or without any
+abbrev pub answer_by_past : Files → Option PastWords → (Option Past → Answer) → Answer
+answer_by_past files None rest = rest None
+answer_by_past files (Some words) rest =
+    answer_by words.file (past_of files words.file) (λ cells. rest (Some (record { asof = words.asof; cells = cells })))
 
--- the answer about a script alone, with this text of what it has
-abbrev pub script_answer : (Trade → List ℕ) → List ℕ → Input Trade → Answer
-script_answer text name not_there = absent name
-script_answer text name (bad refusal) = refused name refusal
-script_answer text name (good trade) = report (text trade)
-
--- the answer to a request: of the script file first, and for `run` then of the scenario file
+-- the answer to a request: by the script file first, and for `run` then by the fixings file, if there is one, and by the scenario file
 abbrev pub answer_to : Asked → Files → Answer
-answer_to (run script scenarios) files = run_script script (script_of files script) scenarios (table_of files scenarios)
-answer_to (check_of script) files = script_answer check_text script (script_of files script)
-answer_to (list_of script) files = script_answer events_text script (script_of files script)
+answer_to (run words) files =
+    answer_by words.script (script_of files words.script) (λ trade.
+    answer_by_past files words.past (λ past.
+    answer_by words.scenarios (table_of files words.scenarios) (λ table. report (report_text trade.events past table))))
+answer_to (check_of script) files = answer_by script (script_of files script) (λ trade. report (check_text trade))
+answer_to (list_of script) files = answer_by script (script_of files script) (λ trade. report (events_text trade))
 
 abbrev pub answer_of : Option Asked → Files → Answer
 answer_of None files = no_request

@@ -1,12 +1,13 @@
 -- Why the tool ended as it did.
-use Rattle.std.specs.Prelude.{◌≡◌, ◌≢◌, ℕ, ◌⊎◌, Bool, true, false, IsTrue, List, [], ◌∷◌, Option, Some, None, IfSome, IsSome, IsSomeAnd}
+use Rattle.std.specs.Prelude.{◌≡◌, ◌≢◌, ℕ, ◌⊎◌, Bool, true, false, IsTrue, List, [], ◌∷◌, ◌++◌, map, Option, Some, None, IfSome, IsSome, IsSomeAnd}
 use Rattle.std.specs.Prelude.{if◌then◌else◌}
 use Rattle.pay_edge.specs.Edge.{Files, Rose, appended, AppendsFront}
 use Rattle.pay_tool.specs.declared.refusal.Refusal.{Refusal}
 use Rattle.pay_tool.specs.declared.exit.Exit.{Exit}
 use Rattle.pay_tool.specs.declared.exit.Exit.TheVariants.{Done, NotRequest, Refused, Unread, Unwritten, NoMemory}
-use Rattle.pay_tool.specs.Requests.{Asked, run, check_of, list_of}
-use Rattle.pay_tool.specs.Answers.{Input, not_there, bad, good, script_of, table_of, Answer, no_request, absent, refused, report, answer_of}
+use Rattle.pay_tool.specs.Requests.{Asked, PastWords, run, check_of, list_of}
+use Rattle.pay_tool.specs.Answers.{Input, not_there, bad, good, script_of, past_of, table_of, script_limit, fixings_limit, table_limit}
+use Rattle.pay_tool.specs.Answers.{Answer, no_request, absent, refused, report, answer_of}
 
 -- an input is there and was not refused
 abbrev pub is_accepted : {A : Type 0} → Input A → Bool
@@ -14,34 +15,56 @@ is_accepted not_there = false
 is_accepted (bad refusal) = false
 is_accepted (good value) = true
 
--- the inputs of a request in order: the name of each, and whether it is accepted among files
-abbrev pub inputs_of : Asked → List (List ℕ × (Files → Bool))
-inputs_of (run script scenarios) =
-    (script, λ files. is_accepted (script_of files script)) ∷ (scenarios, λ files. is_accepted (table_of files scenarios)) ∷ []
-inputs_of (check_of script) = (script, λ files. is_accepted (script_of files script)) ∷ []
-inputs_of (list_of script) = (script, λ files. is_accepted (script_of files script)) ∷ []
+-- an input of a request: the name of its file, how many bytes that may have, and whether it is accepted among files
+pub record InputFile : Type 0 where
+  pub name : List ℕ
+  pub limit : ℕ
+  pub accepted : Files → Bool
+
+abbrev pub script_input : List ℕ → InputFile
+script_input name = record { name = name; limit = script_limit; accepted = λ files. is_accepted (script_of files name) }
+
+abbrev pub past_input : PastWords → InputFile
+past_input words = record { name = words.file; limit = fixings_limit; accepted = λ files. is_accepted (past_of files words.file) }
+
+abbrev pub table_input : List ℕ → InputFile
+table_input name = record { name = name; limit = table_limit; accepted = λ files. is_accepted (table_of files name) }
+
+abbrev pub past_inputs : Option PastWords → List InputFile
+past_inputs None = []
+past_inputs (Some words) = past_input words ∷ []
+
+-- the inputs of a request, in order
+abbrev pub inputs_of : Asked → List InputFile
+inputs_of (run words) = script_input words.script ∷ (past_inputs words.past ++ table_input words.scenarios ∷ [])
+inputs_of (check_of script) = script_input script ∷ []
+inputs_of (list_of script) = script_input script ∷ []
 
 -- the count of an input's name rose, and where the files are told each input before it is accepted
-abbrev pub RoseAmong : List (List ℕ × (Files → Bool)) → Option Files → (List ℕ → ℕ) → (List ℕ → ℕ) → Type 0
+abbrev pub RoseAmong : List InputFile → Option Files → (List ℕ → ℕ) → (List ℕ → ℕ) → Type 0
 RoseAmong [] told before now = ⊥
 RoseAmong (input ∷ inputs) told before now =
-    Rose (before input.0) (now input.0) ⊎ (IfSome told (λ files. IsTrue (input.1 files)) × RoseAmong inputs told before now)
+    Rose (before input.name) (now input.name) ⊎ (IfSome told (λ files. IsTrue (input.accepted files)) × RoseAmong inputs told before now)
 
 -- the count of read faults of an input of the request rose, and each input before it is accepted
 abbrev pub ReadFault : Option Asked → Option Files → (List ℕ → ℕ) → (List ℕ → ℕ) → Type 0
 ReadFault None told before now = ⊥
 ReadFault (Some asked) told before now = RoseAmong (inputs_of asked) told before now
 
--- the names of inputs up to the first that isn't accepted; where the files aren't told, of all
-abbrev pub names_up_to : List (List ℕ × (Files → Bool)) → Option Files → List (List ℕ)
-names_up_to [] told = []
-names_up_to (input ∷ inputs) None = input.0 ∷ names_up_to inputs None
-names_up_to (input ∷ inputs) (Some files) = input.0 ∷ (if input.1 files then names_up_to inputs (Some files) else [])
+-- the inputs up to the first that isn't accepted
+abbrev pub inputs_up_to : List InputFile → Files → List InputFile
+inputs_up_to [] files = []
+inputs_up_to (input ∷ inputs) files = input ∷ (if input.accepted files then inputs_up_to inputs files else [])
 
--- the names of the inputs that may be fetched
+-- the inputs of a request that may be fetched; where the files aren't told, all of them
+abbrev pub inputs_fetched : Option Asked → Option Files → List InputFile
+inputs_fetched None told = []
+inputs_fetched (Some asked) None = inputs_of asked
+inputs_fetched (Some asked) (Some files) = inputs_up_to (inputs_of asked) files
+
+-- their names
 abbrev pub names_fetched : Option Asked → Option Files → List (List ℕ)
-names_fetched None told = []
-names_fetched (Some asked) told = names_up_to (inputs_of asked) told
+names_fetched asked told = map (λ input. input.name) (inputs_fetched asked told)
 
 -- a name is none of these
 abbrev pub IsNoneOf : List (List ℕ) → List ℕ → Type 0
@@ -81,9 +104,9 @@ IsAbsentAt named (refused name refusal) = ⊥
 IsAbsentAt named (report text) = ⊥
 
 -- one of these inputs has the name
-abbrev pub IsNamed : List (List ℕ × (Files → Bool)) → List ℕ → Type 0
+abbrev pub IsNamed : List InputFile → List ℕ → Type 0
 IsNamed [] name = ⊥
-IsNamed (input ∷ inputs) name = (name ≡ input.0) ⊎ IsNamed inputs name
+IsNamed (input ∷ inputs) name = (name ≡ input.name) ⊎ IsNamed inputs name
 
 -- an input of the request has the name
 abbrev pub IsInputName : Option Asked → List ℕ → Type 0
@@ -91,10 +114,10 @@ IsInputName None name = ⊥
 IsInputName (Some asked) name = IsNamed (inputs_of asked) name
 
 -- the input of this name is one whose count rose, and where the files are told each input before it is accepted
-abbrev pub RoseAt : List (List ℕ × (Files → Bool)) → Option Files → (List ℕ → ℕ) → (List ℕ → ℕ) → List ℕ → Type 0
+abbrev pub RoseAt : List InputFile → Option Files → (List ℕ → ℕ) → (List ℕ → ℕ) → List ℕ → Type 0
 RoseAt [] told before now name = ⊥
 RoseAt (input ∷ inputs) told before now name =
-    ((name ≡ input.0) × Rose (before name) (now name)) ⊎ (IfSome told (λ files. IsTrue (input.1 files)) × RoseAt inputs told before now name)
+    ((name ≡ input.name) × Rose (before name) (now name)) ⊎ (IfSome told (λ files. IsTrue (input.accepted files)) × RoseAt inputs told before now name)
 
 abbrev pub ReadFaultAt : Option Asked → Option Files → (List ℕ → ℕ) → (List ℕ → ℕ) → List ℕ → Type 0
 ReadFaultAt None told before now name = ⊥

@@ -11,11 +11,16 @@ use Rattle.pay_parser.specs.TokenLimits.{first_too_large, first_too_deep, IsWith
 use Rattle.pay_roll.specs.declared.refusal.What.TheVariants.{Events}
 use Rattle.pay_roll.specs.Rolling.{first_bad, first_of}
 use Rattle.pay_tool.specs.declared.refusal.Refusal.{Refusal}
-use Rattle.pay_tool.specs.declared.refusal.Refusal.TheVariants.{BadByte, TooLarge, TooDeep, NotScript, BadSchedule, SameDate, TooMany, NotTable}
+use Rattle.pay_tool.specs.declared.refusal.Refusal.TheVariants.{BadByte, TooLarge, TooDeep, NotScript, BadSchedule, SameDate, TooMany}
 use Rattle.pay_tool.specs.Limits.{event_limit, HasGoodSchedules, part_refusals, KeepsLimits}
 use Rattle.pay_tool.specs.Trades.{Trade, trade_of}
-use Rattle.pay_tool.specs.Tables.{Table, SpellsTable}
-use Rattle.pay_tool.specs.Answers.{bad, good, checked_script, checked_table}
+use Rattle.pay_meaning.specs.Meaning.{Cells}
+use Rattle.pay_tables.specs.declared.refusal.TableRefusal.{TableRefusal}
+use Rattle.pay_tables.specs.Records.{records_in}
+use Rattle.pay_tables.specs.Tables.{Table}
+use Rattle.pay_tables.specs.Spelling.{SpellsTable, SpellsPast}
+use Rattle.pay_tables.specs.Faults as faults
+use Rattle.pay_tool.specs.Answers.{bad, good, refusal_of_table, checked_script, checked_fixings, checked_table}
 
 -- a text spells these tokens, none of which passes a limit, and they spell this script
 pub record Spells (bytes : List ℕ) (tokens : List Token) (script : Script) : Type 0 where
@@ -71,14 +76,34 @@ ScriptAcceptanceHasCause = (bytes : List ℕ) (trade : Trade) → (checked_scrip
 abbrev pub ScriptRefusalHasCause : Type 0
 ScriptRefusalHasCause = (bytes : List ℕ) (refusal : Refusal) → (checked_script bytes ≡ bad refusal) ↔ IsScriptFault bytes refusal
 
--- a text spells no table
+-- the records of a text spell this table
+abbrev pub IsTableText : List ℕ → Table → Type 0
+IsTableText bytes table = SpellsTable (records_in bytes) table
+
+-- why a text is refused as a table: its records have a fault, and none that is asked before it
 pub data IsTableFault (bytes : List ℕ) : Refusal → Type 0 where
-  no_table : ((table : Table) → ¬ SpellsTable bytes table) → IsTableFault bytes NotTable
+  no_table : (refusal : TableRefusal) → faults.IsTableFault (records_in bytes) refusal → IsTableFault bytes (refusal_of_table refusal)
 
--- a table's text is accepted exactly where it spells a table, and gives that table
+-- the records of a text spell these past fixings
+abbrev pub IsPastText : List ℕ → Cells → Type 0
+IsPastText bytes cells = SpellsPast (records_in bytes) cells
+
+-- why a text is refused as past fixings: its records have a fault, and none that is asked before it
+pub data IsPastFault (bytes : List ℕ) : Refusal → Type 0 where
+  no_past : (refusal : TableRefusal) → faults.IsPastFault (records_in bytes) refusal → IsPastFault bytes (refusal_of_table refusal)
+
+-- a table's text is accepted exactly where its records spell a table, and gives that table
 abbrev pub TableAcceptanceHasCause : Type 0
-TableAcceptanceHasCause = (bytes : List ℕ) (table : Table) → (checked_table bytes ≡ good table) ↔ SpellsTable bytes table
+TableAcceptanceHasCause = (bytes : List ℕ) (table : Table) → (checked_table bytes ≡ good table) ↔ IsTableText bytes table
 
--- a table's text is refused exactly for its fault
+-- a table's text is refused exactly for its first fault
 abbrev pub TableRefusalHasCause : Type 0
 TableRefusalHasCause = (bytes : List ℕ) (refusal : Refusal) → (checked_table bytes ≡ bad refusal) ↔ IsTableFault bytes refusal
+
+-- a text of past fixings is accepted exactly where its records spell them, and gives them in the order of the text
+abbrev pub PastAcceptanceHasCause : Type 0
+PastAcceptanceHasCause = (bytes : List ℕ) (cells : Cells) → (checked_fixings bytes ≡ good cells) ↔ IsPastText bytes cells
+
+-- a text of past fixings is refused exactly for its first fault
+abbrev pub PastRefusalHasCause : Type 0
+PastRefusalHasCause = (bytes : List ℕ) (refusal : Refusal) → (checked_fixings bytes ≡ bad refusal) ↔ IsPastFault bytes refusal

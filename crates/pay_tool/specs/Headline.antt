@@ -4,7 +4,7 @@ use Rattle.std.specs.List.{flat_map}
 use Rattle.std.specs.FinMap.{get}
 use Rattle.pay_edge.specs.Edge.{Files}
 use Rattle.pay_meaning.specs.Language.{Script}
-use Rattle.pay_meaning.specs.Meaning.{meaning, no_variables, fixings_of}
+use Rattle.pay_meaning.specs.Meaning.{Cells, Past, meaning, no_variables, fixings_of}
 use Rattle.pay_meaning.specs.Events.{all_events, events_of, IsShared}
 use Rattle.pay_lexer.specs.declared.token.Token.{Token}
 use Rattle.pay_lexer.specs.Spelling.{SpellsTokens}
@@ -12,52 +12,63 @@ use Rattle.pay_lexer.specs.Lexing.{kinds}
 use Rattle.pay_parser.specs.Grammar.{SpellsScript}
 use Rattle.pay_parser.specs.TokenLimits.{IsWithin}
 use Rattle.pay_tool.specs.Limits.{event_limit, HasGoodSchedules, KeepsLimits}
-use Rattle.pay_tool.specs.Tables.{Table, SpellsTable}
-use Rattle.pay_tool.specs.Report.{header_line, last_line, scenario_lines}
-use Rattle.pay_tool.specs.Requests.{Asked, run, check_of, list_of, request_of}
-use Rattle.pay_tool.specs.Answers.{script_limit, table_limit}
+use Rattle.pay_tables.specs.Records.{records_in}
+use Rattle.pay_tables.specs.Tables.{Table, cells_of}
+use Rattle.pay_tables.specs.Spelling.{SpellsTable, SpellsPast}
+use Rattle.pay_report.specs.Detail.{header_line, last_line, scenario_lines}
+use Rattle.pay_tool.specs.Requests.{Asked, PastWords, RunWords, run, check_of, list_of, request_of}
+use Rattle.pay_tool.specs.Answers.{script_limit, fixings_limit, table_limit}
 
 -- the words ask for a run
 abbrev pub AsksRun : Option Asked → Type 0
 AsksRun None = ⊥
-AsksRun (Some (run script scenarios)) = Unit {0}
+AsksRun (Some (run words)) = Unit {0}
 AsksRun (Some (check_of script)) = ⊥
 AsksRun (Some (list_of script)) = ⊥
 
--- The words ask for a run of two files. The bytes of the first spell tokens that spell a script none of whose schedules is bad, and no two of
--- whose events have one date. The bytes of the second spell a table. The text has gained a header, for each row of the table in order the lines
--- of what the script's events mean under the fixings of that row, from no variables, and a last line.
+-- the past fixings that a run knows: none where none are asked for, and else those that the records of their file spell, which is not too long,
+-- up to their as-of date
+pub data KnowsPast (files : Files) : Option PastWords → Option Past → Type 0 where
+  knows_none : KnowsPast files None None
+  knows : (words : PastWords) (bytes : List ℕ) (cells : Cells) → get files words.file ≡ Some bytes → length bytes ≤ fixings_limit
+      → SpellsPast (records_in bytes) cells → KnowsPast files (Some words) (Some (record { asof = words.asof; cells = cells }))
+
+-- The words ask for a run of a script file and a scenario file, perhaps with past fixings. The bytes of the first spell tokens that spell a script
+-- none of whose schedules is bad, and no two of whose events have one date. The records of the second spell a table, and those of the fixings file,
+-- where one is given, spell past fixings. The text has gained a header, for each row of the table in order the lines of what the script's events
+-- mean under the past fixings and those of that row, from no variables, and a last line.
 pub record PaysAsMeant (words : List (List ℕ)) (files : Files) (before after : List ℕ) : Type 0 where
-  pub script_name : List ℕ
-  pub table_name : List ℕ
-  pub asks : request_of words ≡ Some (run script_name table_name)
+  pub asked : RunWords
+  pub asks : request_of words ≡ Some (run asked)
   pub script_bytes : List ℕ
-  pub script_file : get files script_name ≡ Some script_bytes
+  pub script_file : get files asked.script ≡ Some script_bytes
   pub table_bytes : List ℕ
-  pub table_file : get files table_name ≡ Some table_bytes
+  pub table_file : get files asked.scenarios ≡ Some table_bytes
   pub tokens : List Token
   pub spells_tokens : SpellsTokens script_bytes tokens
   pub script : Script
   pub spells_script : SpellsScript (kinds tokens) script
   pub schedules : HasGoodSchedules script
   pub dates : (number : ℤ) → ¬ IsShared number (all_events script)
+  pub past : Option Past
+  pub knows_past : KnowsPast files asked.past past
   pub table : Table
-  pub spells_table : SpellsTable table_bytes table
+  pub spells_table : SpellsTable (records_in table_bytes) table
   pub text : after ≡ before ++ (header_line
-      ++ (flat_map (λ row. scenario_lines row.label (meaning (events_of script) no_variables (fixings_of table.dates row.cells))) table.rows ++ last_line))
+      ++ (flat_map (λ row. scenario_lines row.label (meaning (events_of script) no_variables (fixings_of past (cells_of table row)))) table.rows
+      ++ last_line))
 
--- The words ask for a run of two files, neither of which is too long. The bytes of the first spell tokens none of which passes a limit, and
--- which spell a script none of whose schedules is bad, that keeps its limits, and no two of whose events have one date. The bytes of the second
--- spell a table.
+-- The words ask for a run of files none of which is too long. The bytes of the script file spell tokens none of which passes a limit, and which
+-- spell a script none of whose schedules is bad, that keeps its limits, and no two of whose events have one date. The records of the scenario file
+-- spell a table, and those of the fixings file, where one is given, spell past fixings.
 pub record IsPayable (words : List (List ℕ)) (files : Files) : Type 0 where
-  pub script_name : List ℕ
-  pub table_name : List ℕ
-  pub asks : request_of words ≡ Some (run script_name table_name)
+  pub asked : RunWords
+  pub asks : request_of words ≡ Some (run asked)
   pub script_bytes : List ℕ
-  pub script_file : get files script_name ≡ Some script_bytes
+  pub script_file : get files asked.script ≡ Some script_bytes
   pub script_short : length script_bytes ≤ script_limit
   pub table_bytes : List ℕ
-  pub table_file : get files table_name ≡ Some table_bytes
+  pub table_file : get files asked.scenarios ≡ Some table_bytes
   pub table_short : length table_bytes ≤ table_limit
   pub tokens : List Token
   pub spells_tokens : SpellsTokens script_bytes tokens
@@ -68,5 +79,7 @@ pub record IsPayable (words : List (List ℕ)) (files : Files) : Type 0 where
   pub few_events : length (all_events script) ≤ event_limit
   pub keeps : KeepsLimits script
   pub dates : (number : ℤ) → ¬ IsShared number (all_events script)
+  pub past : Option Past
+  pub knows_past : KnowsPast files asked.past past
   pub table : Table
-  pub spells_table : SpellsTable table_bytes table
+  pub spells_table : SpellsTable (records_in table_bytes) table

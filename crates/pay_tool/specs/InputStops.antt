@@ -5,12 +5,12 @@ use Rattle.pay_tool.specs.declared.input.InputStop.{InputStop}
 use Rattle.pay_tool.specs.declared.input.InputStop.TheVariants.{Refused, Unread, NoMemory}
 use Rattle.pay_edge.specs.declared.whole.WholeFault.{WholeFault}
 use Rattle.pay_edge.specs.declared.whole.WholeFault.TheVariants as whole
-use Rattle.pay_tool.specs.declared.refusal.Refusal.TheVariants.{TooLong, NotTable}
+use Rattle.pay_tool.specs.declared.refusal.Refusal.TheVariants.{TooLong}
 use Rattle.pay_tool.specs.declared.script.CheckStop.{CheckStop}
 use Rattle.pay_tool.specs.declared.script.CheckStop.TheVariants as script
-use Rattle.pay_tool.specs.declared.table_reader.TableRefusal.{TableRefusal}
-use Rattle.pay_tool.specs.declared.table_reader.TableRefusal.TheVariants as table
-use Rattle.pay_tool.specs.Answers.{Input, not_there, bad}
+use Rattle.pay_tables.specs.declared.refusal.TableRefusal.{TableRefusal}
+use Rattle.pay_tables.specs.declared.refusal.TableRefusal.TheVariants as table
+use Rattle.pay_tool.specs.Answers.{Input, not_there, bad, refusal_of_table}
 
 -- An input is refused for this reason; or it is unread, since the count of its read faults rose or its file is not there;
 -- of want of memory nothing is said.
@@ -31,7 +31,7 @@ abbrev pub stop_of_script : CheckStop → InputStop
 stop_of_script (script.Refused refusal) = Refused refusal
 stop_of_script script.NoMemory = NoMemory
 
--- the stop of a text that is no table
+-- the stop of a file of scenarios or of past fixings that was not accepted
 abbrev pub stop_of_table : TableRefusal → InputStop
-stop_of_table table.NotTable = Refused NotTable
 stop_of_table table.NoMemory = NoMemory
+stop_of_table refusal = Refused (refusal_of_table refusal)

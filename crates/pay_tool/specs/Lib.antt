@@ -1,7 +1,3 @@
-pub mod Tables
-pub mod TableReading
-pub mod TableViews
-pub mod Report
 pub mod Requests
 pub mod Limits
 pub mod Trades
@@ -9,8 +5,8 @@ pub mod TradeViews
 pub mod Answers
 pub mod Columns
 pub mod Stops
-pub mod TableLaws
 pub mod RequestViews
+pub mod OptionViews
 pub mod InputStops
 pub mod Exits
 pub mod Causes
@@ -20,8 +16,12 @@ pub mod Headline
 pub mod CheckLaws
 pub mod ToolLaws
 pub mod Fetches
-pub mod Cells
+pub mod Reading
 pub mod Assigned
+pub mod PastViews
 pub mod RunViews
+pub mod RowLines
+pub mod Ran
+pub mod Legs
+pub mod LegPlaces
 pub mod Wants
-pub mod Outcomes

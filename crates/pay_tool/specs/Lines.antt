@@ -4,12 +4,12 @@ use Rattle.std.specs.Fmt.{decimal}
 use Rattle.pay_dates.specs.Days.{day_text}
 use Rattle.pay_edge.specs.Edge.{Files, appended}
 use Rattle.pay_roll.specs.declared.refusal.What.{What}
-use Rattle.pay_roll.specs.declared.refusal.What.TheVariants.{Events, Nodes, Pays, Variables, Legs}
+use Rattle.pay_roll.specs.declared.refusal.What.TheVariants.{Events, Nodes, Pays, Rows, Columns, Variables, Legs}
 use Rattle.pay_tool.specs.declared.exit.Exit.{Exit}
 use Rattle.pay_tool.specs.declared.exit.Exit.TheVariants as exit
 use Rattle.pay_tool.specs.declared.refusal.Refusal.{Refusal}
 use Rattle.pay_tool.specs.declared.refusal.Refusal.TheVariants.{TooLong, BadByte, TooLarge, TooDeep, NotScript, BadSchedule, SameDate, TooMany}
-use Rattle.pay_tool.specs.declared.refusal.Refusal.TheVariants.{NotTable}
+use Rattle.pay_tool.specs.declared.refusal.Refusal.TheVariants.{BadHeader, BadDate, RepeatedDate, BadRow, BadName, BadCell}
 use Rattle.pay_tool.specs.Requests.{Asked}
 use Rattle.pay_tool.specs.Answers.{answer_of}
 use Rattle.pay_tool.specs.Causes.{IsInputName, IsRefusedFor, IsUnread}
@@ -19,12 +19,21 @@ abbrev pub what_text : What → List ℕ
 what_text Events = codes "events"
 what_text Nodes = codes "nodes"
 what_text Pays = codes "payments"
+what_text Rows = codes "rows"
+what_text Columns = codes "columns"
 what_text Variables = codes "variables"
 what_text Legs = codes "legs"
 
 -- what is wrong at a byte
 abbrev pub byte_text : ℕ → List ℕ → List ℕ
 byte_text at text = codes "byte " ++ (decimal at ++ (codes ": " ++ text))
+
+-- what is wrong at a place of a table's dates, or in a row
+abbrev pub place_text : ℕ → List ℕ → List ℕ
+place_text place text = codes "place " ++ (decimal place ++ (codes ": " ++ text))
+
+abbrev pub row_text : ℕ → List ℕ → List ℕ
+row_text row text = codes "row " ++ (decimal row ++ (codes ": " ++ text))
 
 -- why a file is refused
 abbrev pub refusal_text : Refusal → List ℕ
@@ -36,7 +45,12 @@ refusal_text NotScript = codes "not a script"
 refusal_text (BadSchedule item) = codes "item " ++ (decimal item ++ codes ": bad schedule")
 refusal_text (SameDate date) = codes "two events on " ++ day_text date
 refusal_text (TooMany what limit) = codes "more than " ++ (decimal limit ++ (codes " " ++ what_text what))
-refusal_text NotTable = codes "not a table"
+refusal_text BadHeader = codes "bad header"
+refusal_text (BadDate place) = place_text place (codes "bad date")
+refusal_text (RepeatedDate place) = place_text place (codes "repeated date")
+refusal_text (BadRow row) = row_text row (codes "wrong number of fields")
+refusal_text (BadName row) = row_text row (codes "bad name")
+refusal_text (BadCell row column) = codes "row " ++ (decimal row ++ (codes ", column " ++ (decimal column ++ codes ": bad number")))
 
 -- a line of the program
 abbrev pub told_line : List ℕ → List ℕ

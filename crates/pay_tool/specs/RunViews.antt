@@ -1,10 +1,11 @@
 -- What a run holds, as the plain data of the meaning.
-use Rattle.std.specs.Prelude.{◌≡◌, List, ◌++◌, map, Result, Ok, Err}
+use Rattle.std.specs.Prelude.{◌≡◌, ℕ, List, ◌++◌, map, Result, Ok, Err}
 use Rattle.pay_meaning.specs.Meaning.{Variables, Effect}
 use Rattle.pay_meaning.specs.Meaning as meant
 use Rattle.pay_meaning.specs.declared.fault.FaultKind.{FaultKind}
 use Rattle.pay_tool.specs.declared.value.Moment.{Moment}
-use Rattle.pay_tool.specs.declared.walker.Payment.{Payment}
+use Rattle.pay_machine.specs.declared.outcome.Payment.{Payment}
+use Rattle.pay_machine.specs.Outcomes.{payment}
 use Rattle.pay_tool.specs.declared.walker.Stop.{Stop}
 use Rattle.pay_tool.specs.declared.walker.Stop.TheVariants.{Fault, NoMemory}
 
@@ -12,13 +13,9 @@ use Rattle.pay_tool.specs.declared.walker.Stop.TheVariants.{Fault, NoMemory}
 abbrev pub moment : Moment → meant.Moment
 moment m = record { date = m.date; fixing = m.fixing; period = m.period; days = m.days }
 
--- what a payment pays
-abbrev pub payment : Payment → meant.Payment
-payment p = record { date = p.date; leg = p.leg.now; amount = p.amount }
-
--- the effect that leaves these variables and these payments
-abbrev pub leaves : Variables → List Payment → Result Effect FaultKind
-leaves variables payments = Ok (record { variables = variables; payments = map payment payments })
+-- the effect that leaves these variables and these payments, whose legs are numbered by their places among these
+abbrev pub leaves : List (List ℕ) → Variables → List Payment → Result Effect FaultKind
+leaves legs variables payments = Ok (record { variables = variables; payments = map (payment legs) payments })
 
 -- an effect is the fault that stopped its statements; of want of memory nothing is said
 abbrev pub StopsAs : Result Effect FaultKind → Stop → Type 0

@@ -1,7 +1,7 @@
 -- A checked script of the code as plain data.
 use Rattle.std.specs.Prelude.{map}
 use Rattle.pay_tree.specs.Views.{event}
-use Rattle.pay_tool.specs.declared.prepare.Trade.{Trade}
+use Rattle.pay_tool.specs.declared.trade.Trade.{Trade}
 use Rattle.pay_tool.specs.Trades as meant
 
 abbrev pub trade : Trade → meant.Trade

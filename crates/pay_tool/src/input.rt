@@ -2,22 +2,26 @@
 
 ghost use Rattle.std.specs.Prelude.{◌≡◌, ◌+◌, ◌≤◌, IfOk, IfErr, IfSome};
 ghost use Rattle.pay_edge.specs.Edge.{OnlyRead, SameBut};
-ghost use Rattle.pay_tool.specs.Answers.{script_of, script_limit, table_of, table_limit, good};
+ghost use Rattle.pay_meaning.specs.Meaning.{Cells};
+ghost use Rattle.pay_tables.specs.FixingsFile.{IsInOrder};
+ghost use Rattle.pay_tables.specs.Tables.{IsGood};
+ghost use Rattle.pay_tables.specs.Views.{past, table};
+ghost use Rattle.pay_tool.specs.Answers.{script_of, script_limit, past_of, fixings_limit, table_of, table_limit, good};
 ghost use Rattle.pay_tool.specs.InputStops.{StopsAt, stop_of_file};
-ghost use Rattle.pay_tool.specs.Tables.{IsAligned};
-ghost use Rattle.pay_tool.specs.TableViews.{table};
 ghost use Rattle.pay_tool.specs.TradeViews.{trade};
 
-use crate::prepare::Trade;
 use crate::refusal::Refusal;
-use crate::scenarios::Scenarios;
 use crate::script::{CheckStop, check_script};
-use crate::table_reader::{TableRefusal, read_scenarios};
+use crate::trade::Trade;
 use pay_edge::{Depot, WholeFault, read_whole};
+use pay_tables::{Past, Scenarios, TableRefusal, read_fixings, read_scenarios};
 use std::alloc::Global;
 
 /// The greatest length of a script file, in bytes.
 const SCRIPT_LIMIT: u32 = 1_048_576;
+
+/// The greatest length of a fixings file, in bytes.
+const FIXINGS_LIMIT: u32 = 16_777_216;
 
 /// The greatest length of a scenario file, in bytes.
 const TABLE_LIMIT: u32 = 67_108_864;
@@ -67,7 +71,19 @@ impl From<TableRefusal> for InputStop {
 
     fn from(fault: TableRefusal) -> InputStop {
         match fault {
-            TableRefusal::NotTable => InputStop::Refused(Refusal::NotTable),
+            TableRefusal::BadHeader => InputStop::Refused(Refusal::BadHeader),
+            TableRefusal::BadDate { place } => InputStop::Refused(Refusal::BadDate { place }),
+            TableRefusal::SameDate { place } => InputStop::Refused(Refusal::RepeatedDate { place }),
+            TableRefusal::BadRow { row } => InputStop::Refused(Refusal::BadRow { row }),
+            TableRefusal::BadName { row } => InputStop::Refused(Refusal::BadName { row }),
+            TableRefusal::BadCell { row, column } => InputStop::Refused(Refusal::BadCell {
+                row,
+                column,
+            }),
+            TableRefusal::TooMany { what, limit } => InputStop::Refused(Refusal::TooMany {
+                what,
+                limit,
+            }),
             TableRefusal::NoMemory => InputStop::NoMemory,
         }
     }
@@ -95,6 +111,30 @@ pub fn read_script<D: Depot>(alloc: Global, depot: &mut D, name: &str) -> Result
     Ok(found)
 }
 
+/// The past fixings of the fixings file `name`, in order of date.
+///
+/// # Errors
+///
+/// `Refused` with the reason, `Unread` where a fetch failed or the depot tells its files and this one is not there,
+/// `NoMemory` where there was no memory.
+#[tactic(auto, unfolding(crate::specs::Answers::checked_fixings))]
+pub fn read_past<D: Depot>(alloc: Global, depot: &mut D, name: &str) -> Result<Past, InputStop>
+    ensures reads { OnlyRead D.files D.read_faults D.write_faults depot.old depot.new }
+    ensures other_names { SameBut name.now (D.read_faults depot.old) (D.read_faults depot.new) }
+    ensures fetches { D.fetches depot.new ≤ D.fetches depot.old + (fixings_limit + 1) }
+    ensures accepted { IfOk result (λ found. IfSome (D.files depot.old) (λ files.
+        (cells : Cells) × (past_of files name.now ≡ good cells) × IsInOrder cells (past found))) }
+    ensures stopped { IfErr result (StopsAt (D.files depot.old) (λ files. past_of files name.now)
+        (D.read_faults depot.old name.now) (D.read_faults depot.new name.now)) }
+{
+    let bytes = match read_whole(alloc, depot, name, u64::from(FIXINGS_LIMIT)) {
+        Ok(bytes) => bytes,
+        Err(fault) => return Err(stop_of_file(FIXINGS_LIMIT, fault)),
+    };
+    let found = read_fixings(alloc, bytes.as_slice())?;
+    Ok(found)
+}
+
 /// The table of the scenario file `name`.
 ///
 /// # Errors
@@ -111,7 +151,7 @@ pub fn read_table<D: Depot>(
     ensures other_names { SameBut name.now (D.read_faults depot.old) (D.read_faults depot.new) }
     ensures fetches { D.fetches depot.new ≤ D.fetches depot.old + (table_limit + 1) }
     ensures accepted { IfOk result (λ scenarios. IfSome (D.files depot.old) (λ files. table_of files name.now ≡ good (table scenarios))) }
-    ensures aligned { IfOk result (λ scenarios. IsAligned (table scenarios)) }
+    ensures good { IfOk result (λ scenarios. IsGood (table scenarios)) }
     ensures stopped { IfErr result (StopsAt (D.files depot.old) (λ files. table_of files name.now)
         (D.read_faults depot.old name.now) (D.read_faults depot.new name.now)) }
 {

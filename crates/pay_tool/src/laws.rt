@@ -1,6 +1,7 @@
 //! Laws that show that the definitions are the ones meant.
 
 ghost use Rattle.pay_tool.specs.CheckLaws.{ScriptAcceptanceHasCause, ScriptRefusalHasCause, TableAcceptanceHasCause, TableRefusalHasCause};
+ghost use Rattle.pay_tool.specs.CheckLaws.{PastAcceptanceHasCause, PastRefusalHasCause};
 ghost use Rattle.pay_tool.specs.ToolLaws.{OneAnswer};
 
 /// Words and files have exactly one answer, in the words of the grammar: that of `answer_of`.
@@ -20,12 +21,22 @@ pub fn script_refusal_has_cause()
     ensures { ScriptRefusalHasCause }
 {}
 
-/// A table's text is accepted exactly where it spells a table, and gives that table.
+/// A table's text is accepted exactly where its records spell a table, and gives that table.
 pub fn table_acceptance_has_cause()
     ensures { TableAcceptanceHasCause }
 {}
 
-/// A table's text is refused exactly where it spells no table.
+/// A table's text is refused exactly for its first fault.
 pub fn table_refusal_has_cause()
     ensures { TableRefusalHasCause }
+{}
+
+/// A text of past fixings is accepted exactly where its records spell them, and gives them in the order of the text.
+pub fn past_acceptance_has_cause()
+    ensures { PastAcceptanceHasCause }
+{}
+
+/// A text of past fixings is refused exactly for its first fault.
+pub fn past_refusal_has_cause()
+    ensures { PastRefusalHasCause }
 {}

@@ -1,8 +1,9 @@
 //! The line to `err`: why a request did not end with its whole answer.
 
 ghost use Rattle.std.specs.Prelude.{◌≡◌, ◌++◌, codes, [], IfOk, OnOk, MatchOption};
+ghost use Rattle.std.specs.Fmt.{decimal};
 ghost use Rattle.pay_edge.specs.Edge.{Rose, appended};
-ghost use Rattle.pay_tool.specs.declared.refusal.Refusal.TheVariants.{TooLong, BadSchedule, SameDate, TooMany};
+ghost use Rattle.pay_tool.specs.declared.refusal.Refusal.TheVariants.{TooLong, SameDate, TooMany, BadCell};
 ghost use Rattle.pay_tool.specs.Lines as meant;
 
 use crate::exit::Exit;
@@ -32,20 +33,11 @@ fn what_text(what: What) -> &'static [u8]
         What::Events => b"events",
         What::Nodes => b"nodes",
         What::Pays => b"payments",
+        What::Rows => b"rows",
+        What::Columns => b"columns",
         What::Variables => b"variables",
         What::Legs => b"legs",
     }
-}
-
-/// Appends what is wrong at a byte.
-fn write_byte(alloc: Global, at: u32, wrong: &[u8], text: &mut Vec<u8>) -> Result<(), NoMemory>
-    ensures { OnOk result (text.new.items ≡ text.old.items ++ meant.byte_text at wrong.now) }
-{
-    text.extend_from_slice(b"byte ")?;
-    write_count(alloc, at as usize, text)?;
-    text.extend_from_slice(b": ")?;
-    text.extend_from_slice(wrong)?;
-    Ok(())
 }
 
 /// Appends that the file is longer than its limit.
@@ -75,25 +67,69 @@ fn write_refusal(alloc: Global, refusal: Refusal, text: &mut Vec<u8>) -> Result<
 {
     match refusal {
         Refusal::TooLong { limit } => write_too_long(alloc, limit, text),
-        Refusal::BadByte { at } => write_byte(alloc, at, b"no token begins here", text),
-        Refusal::TooLarge { at } => write_byte(alloc, at, b"token too large", text),
-        Refusal::TooDeep { at } => write_byte(alloc, at, b"nested too deep", text),
+        Refusal::BadByte { at } => write_wrong(alloc, b"byte ", at, b"no token begins here", text),
+        Refusal::TooLarge { at } => write_wrong(alloc, b"byte ", at, b"token too large", text),
+        Refusal::TooDeep { at } => write_wrong(alloc, b"byte ", at, b"nested too deep", text),
         Refusal::NotScript => write_text(b"not a script", text),
-        Refusal::BadSchedule { item } => write_bad_schedule(alloc, item, text),
+        Refusal::BadSchedule { item } => write_wrong(alloc, b"item ", item, b"bad schedule", text),
         Refusal::SameDate { date } => write_shared(date, text),
         Refusal::TooMany { what, limit } => write_too_many(alloc, what, limit, text),
-        Refusal::NotTable => write_text(b"not a table", text),
+        Refusal::BadHeader => write_text(b"bad header", text),
+        Refusal::BadDate { place } => write_wrong(alloc, b"place ", place, b"bad date", text),
+        Refusal::RepeatedDate { place } => write_wrong(
+            alloc,
+            b"place ",
+            place,
+            b"repeated date",
+            text,
+        ),
+        Refusal::BadRow { row } => write_wrong(
+            alloc,
+            b"row ",
+            row,
+            b"wrong number of fields",
+            text,
+        ),
+        Refusal::BadName { row } => write_wrong(alloc, b"row ", row, b"bad name", text),
+        Refusal::BadCell { row, column } => write_bad_cell(alloc, row, column, text),
     }
 }
 
-/// Appends that the schedule of an item is bad.
-fn write_bad_schedule(alloc: Global, item: u32, text: &mut Vec<u8>) -> Result<(), NoMemory>
-    ensures { OnOk result (text.new.items ≡ text.old.items ++ meant.refusal_text (BadSchedule item)) }
+/// Appends that a cell is bad.
+fn write_bad_cell(alloc: Global, row: u32, column: u32, text: &mut Vec<u8>) -> Result<(), NoMemory>
+    ensures { OnOk result (text.new.items ≡ text.old.items ++ meant.refusal_text (BadCell row column)) }
 {
-    text.extend_from_slice(b"item ")?;
-    write_count(alloc, item as usize, text)?;
-    text.extend_from_slice(b": bad schedule")?;
-    Ok(())
+    write_numbered(alloc, b"row ", row, text)?;
+    write_wrong(alloc, b", column ", column, b"bad number", text)
+}
+
+/// Appends what is wrong at a place: the words for it, its number, and what is wrong there.
+#[tactic(auto, using(std::proofs::Common::append_assoc))]
+fn write_wrong(
+    alloc: Global,
+    words: &[u8],
+    number: u32,
+    wrong: &[u8],
+    text: &mut Vec<u8>,
+) -> Result<(), NoMemory>
+    ensures { OnOk result (text.new.items ≡ text.old.items ++ (words.now ++ (decimal number ++ (codes ": " ++ wrong.now)))) }
+{
+    write_numbered(alloc, words, number, text)?;
+    write_text(b": ", text)?;
+    write_text(wrong, text)
+}
+
+/// Appends words and a number.
+fn write_numbered(
+    alloc: Global,
+    words: &[u8],
+    number: u32,
+    text: &mut Vec<u8>,
+) -> Result<(), NoMemory>
+    ensures { OnOk result (text.new.items ≡ text.old.items ++ (words.now ++ decimal number)) }
+{
+    write_text(words, text)?;
+    write_count(alloc, number as usize, text)
 }
 
 /// Appends that two events have a date.

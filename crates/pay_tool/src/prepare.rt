@@ -9,8 +9,9 @@ ghost use Rattle.pay_tool.specs.TradeViews.{trade};
 
 use crate::refusal::Refusal;
 use crate::script::CheckStop;
+use crate::trade::Trade;
 use pay_roll::{What, roll};
-use pay_tree::{Name, NamedEvent, Script, legs, variables};
+use pay_tree::{Name, Script, legs, variables};
 use std::alloc::Global;
 
 /// The most different variables.
@@ -18,17 +19,6 @@ const MOST_VARIABLES: u32 = 1_024;
 
 /// The most different legs.
 const MOST_LEGS: u32 = 256;
-
-/// What a script has that was checked.
-#[derive(Drop)]
-pub struct Trade {
-    /// Its variables, by their first appearance in its text.
-    pub variables: Vec<Name>,
-    /// Its legs, by their first appearance in its text.
-    pub legs: Vec<Name>,
-    /// Its events, in order of date.
-    pub events: Vec<NamedEvent>,
-}
 
 /// What a script has.
 ///

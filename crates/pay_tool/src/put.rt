@@ -3,24 +3,21 @@
 ghost use Rattle.std.specs.Prelude.{◌≡◌, ◌≤◌, OnOk, IfErr, IsErrOf, All, length, map};
 ghost use Rattle.std.specs.List.{flat_map};
 ghost use Rattle.pay_edge.specs.Edge.{Rose, appended, AppendsFront};
-ghost use Rattle.pay_tree.specs.Views as view;
-ghost use Rattle.pay_tool.specs.Report.{row_lines, report_text};
-ghost use Rattle.pay_tool.specs.Tables.{IsAligned};
-ghost use Rattle.pay_tool.specs.TableViews.{row, table};
+ghost use Rattle.pay_report.specs.Detail.{header_line, last_line, report_text};
+ghost use Rattle.pay_tables.specs.Tables.{IsGood};
+ghost use Rattle.pay_tables.specs.Views.{row, table};
+ghost use Rattle.pay_tool.specs.PastViews.{lent_past};
+ghost use Rattle.pay_tool.specs.RowLines.{lines_of};
+ghost use Rattle.pay_tool.specs.TradeViews.{trade};
 
 use crate::aligned::AlignedEvents;
-use crate::report::write_scenario;
-use crate::scenarios::{ScenarioRow, Scenarios};
+use crate::past::PastFixings;
+use crate::trade::Trade;
 use pay_edge::Sink;
 use pay_fixed::NoMemory;
-use pay_tree::NamedEvent;
+use pay_report::{DetailWriter, detail_header, last_line};
+use pay_tables::{ScenarioRow, Scenarios};
 use std::alloc::Global;
-
-/// The first line of a report.
-const HEADER_LINE: &[u8] = b"scenario,date,leg,amount\n";
-
-/// The last line of a report.
-const LAST_LINE: &[u8] = b"#nodes,,,\n";
 
 /// Why a report was not put whole.
 #[derive(Clone, Copy, PartialEq, Eq, Debug)]
@@ -42,28 +39,29 @@ impl From<NoMemory> for PutStop {
     }
 }
 
-/// Puts the report of events over a table of scenarios: the header, the lines of each scenario that has lines, in one
-/// piece each, and the last line.
+/// Puts the report of a checked script over past fixings, if there are any, and a table of scenarios: the header, the lines of each scenario
+/// that has lines, in one piece each, and the last line.
 ///
 /// # Errors
 ///
 /// `Failed` where a put failed, `NoMemory` where there was no memory. A front of the report was then put.
 pub fn put_report<O: Sink>(
     alloc: Global,
-    events: &[NamedEvent],
+    found: &Trade,
+    past: Option<&PastFixings>,
     scenarios: &Scenarios,
     out: &mut O,
 ) -> Result<(), PutStop>
-    requires { IsAligned (table scenarios.now) }
-    ensures ok { OnOk result (O.text out.new ≡ appended (O.text out.old) (report_text (map view.event events.now) (table scenarios.now))) }
-    ensures front { AppendsFront (O.text out.old) (O.text out.new) (report_text (map view.event events.now) (table scenarios.now)) }
+    requires good { IsGood (table scenarios.now) }
+    ensures ok { OnOk result (O.text out.new ≡ appended (O.text out.old) (report_text (trade found.now).events (lent_past past.entry) (table scenarios.now))) }
+    ensures front { AppendsFront (O.text out.old) (O.text out.new) (report_text (trade found.now).events (lent_past past.entry) (table scenarios.now)) }
     ensures failed { IsErrOf result PutStop.Failed → Rose (O.faults out.old) (O.faults out.new) }
     ensures never_falls { O.faults out.old ≤ O.faults out.new }
 {
-    let aligned = AlignedEvents::new(alloc, events, scenarios.dates.as_slice())?;
-    put_piece(out, HEADER_LINE)?;
+    let aligned = AlignedEvents::new(alloc, found, past, scenarios.dates.as_slice())?;
+    put_header(alloc, out)?;
     put_rows(alloc, &aligned, scenarios.rows.as_slice(), out)?;
-    put_piece(out, LAST_LINE)
+    put_last_line(alloc, out)
 }
 
 /// Puts one piece.
@@ -80,26 +78,50 @@ pub fn put_piece<O: Sink>(out: &mut O, piece: &[u8]) -> Result<(), PutStop>
     }
 }
 
+/// Puts the first line.
+fn put_header<O: Sink>(alloc: Global, out: &mut O) -> Result<(), PutStop>
+    ensures ok { OnOk result (O.text out.new ≡ appended (O.text out.old) header_line) }
+    ensures front { AppendsFront (O.text out.old) (O.text out.new) header_line }
+    ensures failed { IsErrOf result PutStop.Failed → Rose (O.faults out.old) (O.faults out.new) }
+    ensures never_falls { O.faults out.old ≤ O.faults out.new }
+{
+    let mut line = Vec::new(alloc);
+    detail_header(alloc, &mut line)?;
+    put_piece(out, line.as_slice())
+}
+
+/// Puts the last line.
+fn put_last_line<O: Sink>(alloc: Global, out: &mut O) -> Result<(), PutStop>
+    ensures ok { OnOk result (O.text out.new ≡ appended (O.text out.old) last_line) }
+    ensures front { AppendsFront (O.text out.old) (O.text out.new) last_line }
+    ensures failed { IsErrOf result PutStop.Failed → Rose (O.faults out.old) (O.faults out.new) }
+    ensures never_falls { O.faults out.old ≤ O.faults out.new }
+{
+    let mut line = Vec::new(alloc);
+    last_line(alloc, &mut line)?;
+    put_piece(out, line.as_slice())
+}
+
 /// Puts the lines of one scenario, if it has any.
 fn put_row<O: Sink>(
     alloc: Global,
     events: &AlignedEvents<'_>,
     scenario: &ScenarioRow,
+    detail: &mut DetailWriter,
     out: &mut O,
 ) -> Result<(), PutStop>
     requires full { length scenario.now.cells.items ≡ length events.now.dates.now }
-    ensures ok { OnOk result (O.text out.new ≡ appended (O.text out.old)
-        (row_lines (map view.event events.now.events.now) events.now.dates.now (row scenario.now))) }
-    ensures front { AppendsFront (O.text out.old) (O.text out.new) (row_lines (map view.event events.now.events.now) events.now.dates.now (row scenario.now)) }
+    ensures ok { OnOk result (O.text out.new ≡ appended (O.text out.old) (lines_of events.now (row scenario.now))) }
+    ensures front { AppendsFront (O.text out.old) (O.text out.new) (lines_of events.now (row scenario.now)) }
     ensures failed { IsErrOf result PutStop.Failed → Rose (O.faults out.old) (O.faults out.new) }
     ensures never_falls { O.faults out.old ≤ O.faults out.new }
 {
-    let mut lines = Vec::new(alloc);
-    write_scenario(alloc, events, scenario, &mut lines)?;
+    let outcome = events.run(alloc, scenario.cells.as_slice())?;
+    let lines = detail.rows(&scenario.label, &outcome, events.legs())?;
     if lines.is_empty() {
         return Ok(());
     }
-    put_piece(out, lines.as_slice())
+    put_piece(out, lines)
 }
 
 /// Puts the lines of scenarios in their order.
@@ -110,15 +132,14 @@ fn put_rows<O: Sink>(
     out: &mut O,
 ) -> Result<(), PutStop>
     requires full { All (λ scenario. length scenario.cells ≡ length events.now.dates.now) (map row rows.now) }
-    ensures ok { OnOk result (O.text out.new ≡ appended (O.text out.old)
-        (flat_map (row_lines (map view.event events.now.events.now) events.now.dates.now) (map row rows.now))) }
-    ensures front { AppendsFront (O.text out.old) (O.text out.new)
-        (flat_map (row_lines (map view.event events.now.events.now) events.now.dates.now) (map row rows.now)) }
+    ensures ok { OnOk result (O.text out.new ≡ appended (O.text out.old) (flat_map (lines_of events.now) (map row rows.now))) }
+    ensures front { AppendsFront (O.text out.old) (O.text out.new) (flat_map (lines_of events.now) (map row rows.now)) }
     ensures failed { IsErrOf result PutStop.Failed → Rose (O.faults out.old) (O.faults out.new) }
     ensures never_falls { O.faults out.old ≤ O.faults out.new }
 {
+    let mut detail = DetailWriter::new(alloc);
     for scenario in rows {
-        put_row(alloc, events, scenario, out)?;
+        put_row(alloc, events, scenario, &mut detail, out)?;
     }
     Ok(())
 }

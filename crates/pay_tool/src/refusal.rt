@@ -39,13 +39,40 @@ pub enum Refusal {
         /// The date.
         date: Day,
     },
-    /// The script has more of these than its limit.
+    /// The file has more of these than its limit.
     TooMany {
         /// What it has too many of.
         what: What,
         /// How many there may be.
         limit: u32,
     },
-    /// The text is no plain table.
-    NotTable,
+    /// The file has no first record, or it isn't the header of such a file.
+    BadHeader,
+    /// A field in the place of a date is none of the years 1900 to 2199 as `YYYY-MM-DD`.
+    BadDate {
+        /// Its column in a scenario file, its row in a fixings file, from 1.
+        place: u32,
+    },
+    /// A date is in the file once more.
+    RepeatedDate {
+        /// Its column in a scenario file, its row in a fixings file, from 1.
+        place: u32,
+    },
+    /// A row of the file has more or fewer fields than its header.
+    BadRow {
+        /// The row, from 1.
+        row: u32,
+    },
+    /// The first field of a row of the scenario file is no label: 1 to 64 ASCII letters, digits, `_`, `.` and `-`.
+    BadName {
+        /// The row, from 1.
+        row: u32,
+    },
+    /// A cell of the file is neither empty nor a decimal of a magnitude of at most 10^15 raws of 1/10,000.
+    BadCell {
+        /// The row, from 1.
+        row: u32,
+        /// The column, from 1.
+        column: u32,
+    },
 }

@@ -7,8 +7,9 @@ ghost use Rattle.pay_tool.specs.Answers.{checked_script, parsed_input, good};
 ghost use Rattle.pay_tool.specs.Stops.{Stops, StopsScript};
 ghost use Rattle.pay_tool.specs.TradeViews.{trade};
 
-use crate::prepare::{Trade, prepare};
+use crate::prepare::prepare;
 use crate::refusal::Refusal;
+use crate::trade::Trade;
 use pay_fixed::NoMemory;
 use pay_lexer::{LexFault, Token, lex};
 use pay_parser::{ParseFault, parse};

@@ -13,7 +13,7 @@ ghost use Rattle.pay_tool.specs.Requests.{asked_in};
 use crate::about::{check, events};
 use crate::exit::{Exit, status_of};
 use crate::line::{MEMORY_LINE, file_line, put_line, short_line};
-use crate::request::{Request, RunWords, WordsFault, request_of_words};
+use crate::request::{Request, WordsFault, request_of_words};
 use crate::run::run;
 use pay_edge::{Depot, Sink};
 use pay_fixed::NoMemory;
@@ -22,9 +22,10 @@ use std::alloc::Global;
 /// Does what the words after a program's name ask for, over the files of a depot: puts an answer to `out`, and gives
 /// the exit status.
 ///
-/// `run SCRIPT SCENARIOS` fetches and checks the script file (at most 1,048,576 bytes) and then the scenario file (at
-/// most 67,108,864 bytes). Then it puts a header, for each scenario the payments that the script makes in it, and a
-/// last line. Nothing is put before both files are accepted.
+/// `run SCRIPT SCENARIOS`, perhaps with `--fixings FILE --asof DATE` after it, fetches and checks the script file (at most 1,048,576
+/// bytes), then the fixings file, if one is given (16,777,216), and then the scenario file (67,108,864). Then it puts a header, for each
+/// scenario the payments that the script makes in it, and a last line. At a date that isn't after DATE the fixing is that of the fixings
+/// file, and there is none where that file has none; at each date after it the scenario's. Nothing is put before all files are accepted.
 ///
 /// `check SCRIPT` fetches and checks the script file, and then puts three lines in one piece: how many events, variables and
 /// legs it has, as `events 5`, `variables 2` and `legs 1`. `events SCRIPT` does the same, and puts the script's events in order
@@ -160,9 +161,7 @@ fn serve<D: Depot, O: Sink>(alloc: Global, words: &Vec<String>, depot: &mut D, o
     ensures caused { Caused (asked_in words.now) (ends_of D.files D.read_faults O.text O.faults depot.old depot.new out.old out.new) result }
 {
     match request_of_words(alloc, words) {
-        Ok(Request::Run(RunWords { script, scenarios })) => run(
-            alloc, script, scenarios, depot, out,
-        ),
+        Ok(Request::Run(words)) => run(alloc, words, depot, out),
         Ok(Request::Check { script }) => check(alloc, script, depot, out),
         Ok(Request::Events { script }) => events(alloc, script, depot, out),
         Err(WordsFault::NotRequest) => Exit::NotRequest,

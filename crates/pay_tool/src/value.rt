@@ -1,6 +1,7 @@
 //! What an event's statements ask for in one scenario: the values of numbers and the truths of conditions, or their faults.
 
 ghost use Rattle.std.specs.Prelude.{◌≡◌, IfOk, IsErrOf};
+ghost use Rattle.pay_meaning.specs.Language.{binary};
 ghost use Rattle.pay_meaning.specs.Meaning as meant;
 ghost use Rattle.pay_tree.specs.Views as view;
 ghost use Rattle.pay_tool.specs.RunViews.{moment};
@@ -59,12 +60,47 @@ fn whole(count: u32) -> Fixed
     Fixed::from_raw(i64::from(count) * 10_000).unwrap()
 }
 
-/// The value of an expression.
+/// The value of a number under an operator, or the fault of the number.
+#[cycle(value)]
+fn value_of_unary<'a>(
+    op: Unary,
+    side: &'a Expr,
+    variables: &Variables<'a>,
+    at: &Moment,
+) -> Result<Fixed, FaultKind>
+    ensures { result ≡ meant.value (view.signed op (view.number side.now)) variables.now (moment at.now) }
+{
+    let number = value(side, variables, at)?;
+    match op {
+        Unary::Neg => Ok(number.neg()),
+        Unary::Abs => Ok(number.abs()),
+    }
+}
+
+/// The value of two numbers under an operator, or the first fault from left to right.
+#[cycle(value)]
+fn value_of_binary<'a>(
+    op: Binary,
+    left: &'a Expr,
+    right: &'a Expr,
+    variables: &Variables<'a>,
+    at: &Moment,
+) -> Result<Fixed, FaultKind>
+    ensures { result ≡ meant.value (binary (view.operator op) (view.number left.now) (view.number right.now)) variables.now (moment at.now) }
+{
+    let first = value(left, variables, at)?;
+    let second = value(right, variables, at)?;
+    calculated(op, first, second)
+}
+
+/// The value of an expression. What has no side is found at the place of the call.
 ///
 /// # Errors
 ///
 /// The first fault from left to right: `MissingFixing` where the fixing is read and there is none, `ZeroDivisor` where a
 /// divisor is zero, `Overflow` where a result is beyond the limit.
+#[cycle(value)]
+#[inline(always)]
 pub fn value<'a>(expr: &'a Expr, variables: &Variables<'a>, at: &Moment) -> Result<Fixed, FaultKind>
     ensures { result ≡ meant.value (view.number expr.now) variables.now (moment at.now) }
 {
@@ -74,13 +110,8 @@ pub fn value<'a>(expr: &'a Expr, variables: &Variables<'a>, at: &Moment) -> Resu
         Expr::Spot => at.fixing.ok_or(FaultKind::MissingFixing),
         Expr::Period => Ok(whole(at.period)),
         Expr::Days => Ok(whole(at.days)),
-        Expr::Unary(Unary::Neg, side) => Ok(value(side, variables, at)?.neg()),
-        Expr::Unary(Unary::Abs, side) => Ok(value(side, variables, at)?.abs()),
-        Expr::Binary(op, left, right) => {
-            let first = value(left, variables, at)?;
-            let second = value(right, variables, at)?;
-            calculated(*op, first, second)
-        }
+        Expr::Unary(op, side) => value_of_unary(*op, side, variables, at),
+        Expr::Binary(op, left, right) => value_of_binary(*op, left, right, variables, at),
     }
 }
 

@@ -1,6 +1,6 @@
 //! The variables of a run.
 
-ghost use Rattle.std.specs.Prelude.{◌≡◌, OnOk, pos};
+ghost use Rattle.std.specs.Prelude.{◌≡◌, IfOk, OnOk, map, pos};
 ghost use Rattle.std.specs.FinMap.{insert};
 ghost use Rattle.pay_meaning.specs.Meaning.{no_variables, lookup};
 
@@ -54,6 +54,21 @@ impl<'a> Variables<'a> {
             Some(value) => *value,
             None => zero(),
         }
+    }
+
+    /// The values of the variables with these names, in their order.
+    ///
+    /// # Errors
+    ///
+    /// [`NoMemory`] where there was no memory for the values.
+    pub fn values_of(&self, alloc: Global, names: &'a [Name]) -> Result<Vec<Fixed>, NoMemory>
+        ensures { IfOk result (λ values. values.items ≡ map (lookup self.now) names.now) }
+    {
+        let mut values = Vec::with_capacity(alloc, names.len())?;
+        for name in names {
+            values.push(self.lookup(name))?;
+        }
+        Ok(values)
     }
 
     /// Gives a variable this value.

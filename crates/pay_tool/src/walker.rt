@@ -1,28 +1,21 @@
 //! The statements of an event in one scenario: their effect on variables and payments, or their fault.
 
-ghost use Rattle.std.specs.Prelude.{◌≡◌, ◌∷◌, [], ◌++◌, IfErr, IsErrOf, OnOk, map};
+ghost use Rattle.std.specs.Prelude.{◌≡◌, ◌<◌, ◌∷◌, [], ◌++◌, All, IfErr, IsErrOf, IsTrue, OnOk, length, map};
 ghost use Rattle.pay_meaning.specs.Meaning.{effect, effect_of, after_payments};
 ghost use Rattle.pay_tree.specs.Views as view;
-ghost use Rattle.pay_tool.specs.RunViews.{Extends, leaves, moment, payment, StopsAs};
+ghost use Rattle.pay_machine.specs.Outcomes.{payment};
+ghost use Rattle.pay_tool.specs.Legs.{is_one_of, pay_among, pays_among};
+ghost use Rattle.pay_tool.specs.RunViews.{Extends, leaves, moment, StopsAs};
 ghost use Rattle.pay_tool.specs.Wants.{WantedAmong, WantedIn};
 
+use crate::legs::LegNumbers;
 use crate::value::{Moment, truth, value};
 use crate::variables::Variables;
 use pay_dates::Day;
 use pay_fixed::{Fixed, NoMemory};
+use pay_machine::Payment;
 use pay_meaning::FaultKind;
 use pay_tree::{Name, Stmt};
-
-/// An amount that a leg is paid at a date.
-#[derive(Drop)]
-pub struct Payment<'a> {
-    /// The date.
-    pub date: Day,
-    /// The leg that is paid.
-    pub leg: &'a Name,
-    /// The amount.
-    pub amount: Fixed,
-}
 
 /// Why a statement stopped.
 #[derive(Clone, Copy, PartialEq, Eq, Debug)]
@@ -59,14 +52,20 @@ impl From<NoMemory> for Stop {
 
 /// Appends a payment.
 fn add_payment<'a>(
-    payments: &mut Vec<Payment<'a>>,
+    payments: &mut Vec<Payment>,
     date: Day,
+    legs: &LegNumbers<'a>,
     leg: &'a Name,
     amount: Fixed,
 ) -> Result<(), NoMemory>
-    ensures ok { OnOk result (map payment payments.new.items ≡ map payment payments.old.items ++ record { date = date; leg = leg.now; amount = amount } ∷ []) }
+    requires own_leg { IsTrue (is_one_of legs.now.legs.now leg.now) }
+    requires in_range { All (λ p. p.leg < length legs.now.legs.now) payments.now.items }
+    ensures ok { OnOk result (map (payment legs.now.legs.now) payments.new.items
+        ≡ map (payment legs.now.legs.now) payments.old.items ++ record { date = date; leg = leg.now; amount = amount } ∷ []) }
+    ensures in_range { All (λ p. p.leg < length legs.now.legs.now) payments.new.items }
     ensures extends { Extends payments.old.items payments.new.items }
 {
+    let leg = legs.number_of(leg);
     match payments.push(Payment { date, leg, amount }) {
         Ok(()) => Ok(()),
         Err(_) => Err(NoMemory),
@@ -77,14 +76,18 @@ fn add_payment<'a>(
 #[cycle(run)]
 fn run_statement<'a>(
     statement: &'a Stmt,
+    legs: &LegNumbers<'a>,
     variables: &mut Variables<'a>,
     at: &Moment,
-    payments: &mut Vec<Payment<'a>>,
+    payments: &mut Vec<Payment>,
 ) -> Result<(), Stop>
-    ensures ok { OnOk result (after_payments (map payment payments.old.items) (effect_of (view.statement statement.now) variables.old (moment at.now))
-        ≡ leaves variables.new payments.new.items) }
+    requires own_legs { IsTrue (pays_among legs.now.legs.now (view.statement statement.now)) }
+    requires in_range { All (λ p. p.leg < length legs.now.legs.now) payments.now.items }
+    ensures ok { OnOk result (after_payments (map (payment legs.now.legs.now) payments.old.items)
+        (effect_of (view.statement statement.now) variables.old (moment at.now)) ≡ leaves legs.now.legs.now variables.new payments.new.items) }
     ensures fault { IfErr result (StopsAs (effect_of (view.statement statement.now) variables.old (moment at.now))) }
     ensures memory { IsErrOf result Stop.NoMemory → WantedIn (view.statement statement.now) variables.old (moment at.now) }
+    ensures in_range { All (λ p. p.leg < length legs.now.legs.now) payments.new.items }
     ensures extends { Extends payments.old.items payments.new.items }
 {
     match statement {
@@ -97,20 +100,20 @@ fn run_statement<'a>(
         }
         Stmt::Pay { leg, amount } => {
             let amount = value(amount, variables, at)?;
-            add_payment(payments, at.date, leg, amount)?;
+            add_payment(payments, at.date, legs, leg, amount)?;
         }
         Stmt::If { cond, yes, no } => {
             if truth(cond, variables, at)? {
-                run_statements(yes, variables, at, payments)?;
+                run_statements(yes, legs, variables, at, payments)?;
             } else {
-                run_statements(no, variables, at, payments)?;
+                run_statements(no, legs, variables, at, payments)?;
             }
         }
     }
     Ok(())
 }
 
-/// Runs statements in their order, until one stops.
+/// Runs statements in their order, until one stops. They pay legs of `legs` alone.
 ///
 /// # Errors
 ///
@@ -119,18 +122,22 @@ fn run_statement<'a>(
 #[cycle(run)]
 pub fn run_statements<'a>(
     statements: &'a [Stmt],
+    legs: &LegNumbers<'a>,
     variables: &mut Variables<'a>,
     at: &Moment,
-    payments: &mut Vec<Payment<'a>>,
+    payments: &mut Vec<Payment>,
 ) -> Result<(), Stop>
-    ensures ok { OnOk result (after_payments (map payment payments.old.items) (effect (view.body statements.now) variables.old (moment at.now))
-        ≡ leaves variables.new payments.new.items) }
+    requires own_legs { IsTrue (pay_among legs.now.legs.now (view.body statements.now)) }
+    requires in_range { All (λ p. p.leg < length legs.now.legs.now) payments.now.items }
+    ensures ok { OnOk result (after_payments (map (payment legs.now.legs.now) payments.old.items)
+        (effect (view.body statements.now) variables.old (moment at.now)) ≡ leaves legs.now.legs.now variables.new payments.new.items) }
     ensures fault { IfErr result (StopsAs (effect (view.body statements.now) variables.old (moment at.now))) }
     ensures memory { IsErrOf result Stop.NoMemory → WantedAmong (view.body statements.now) variables.old (moment at.now) }
+    ensures in_range { All (λ p. p.leg < length legs.now.legs.now) payments.new.items }
     ensures extends { Extends payments.old.items payments.new.items }
 {
     for statement in statements {
-        run_statement(statement, variables, at, payments)?;
+        run_statement(statement, legs, variables, at, payments)?;
     }
     Ok(())
 }

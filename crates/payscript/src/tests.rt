@@ -1,23 +1,10 @@
 //! Runs of the whole tool over files and sinks in memory. Expected reports are worked by hand.
 
+use crate::harness::{REPORT, ROOM, SCRIPT, TABLE, depot_with, ends, line_of, words_of};
 use pay_dates::Day;
-use pay_edge::{Depot, FetchFault, MemoryDepot, MemorySink, NoMemory};
-use pay_tool::{
-    CheckStop, Refusal, Request, What, WordsFault, check_script, request_of_words, run_tool,
-};
-use std::alloc::{AllocError, Global};
-use std::process::Abort;
+use pay_edge::{Depot, FetchFault, MemorySink};
+use pay_tool::{Request, WordsFault, request_of_words, run_tool};
 use std::test::Fail;
-
-const SCRIPT: &str = "@2024-06-28 x = 100 opt pays spot() - x";
-
-const TABLE: &str = "scenario,2024-06-28\nup,112.5\ndown,90\n";
-
-const REPORT: &str =
-    "scenario,date,leg,amount\nup,2024-06-28,opt,12.5\ndown,2024-06-28,opt,-10\n#nodes,,,\n";
-
-// More than any report of these tests.
-const ROOM: u32 = 10_000;
 
 // A yearly autocall on one index.
 const AUTOCALL: &str = "// autocall on one index
@@ -61,8 +48,14 @@ const ANSWERS: [(&str, &str, &str); 7] = [
 ];
 
 // A script, a table, and the report of the script over the table.
-const REPORTS: [(&str, &str, &str); 29] = [
+const REPORTS: [(&str, &str, &str); 30] = [
     (SCRIPT, TABLE, REPORT),
+    // A table as a spreadsheet writes it.
+    (
+        "@2024-06-28 x pays spot()",
+        "\u{feff}Scenario,2024-06-28\r\na, 100.123456789012345 \r\nb,1e-05\r\n\"c\",\"5e-05\"\r\n",
+        "scenario,date,leg,amount\na,2024-06-28,x,100.1235\nb,2024-06-28,x,0\nc,2024-06-28,x,0.0001\n#nodes,,,\n",
+    ),
     // Several payments, and a value that is rounded away from zero.
     (
         "@2024-06-28 opt pays spot() fee pays 2.5;",
@@ -224,231 +217,94 @@ const REPORTS: [(&str, &str, &str); 29] = [
     ("", "scenario\n", "scenario,date,leg,amount\n#nodes,,,\n"),
 ];
 
-// A script and a table, one of which is refused: two events on one date, other grammar, a number beyond the limit, a
-// keyword as a leg, an empty table, and a last line without its end.
-const REFUSED: [(&str, &str); 6] = [
-    ("@2024-01-10 a pays 1 @2024-01-10 a pays 2", TABLE),
-    ("@2024-01-10 a pays 2 *", TABLE),
-    ("@2024-06-28 a pays 100000000000000.0001", TABLE),
-    ("@2024-06-28 spot pays 1", TABLE),
-    (SCRIPT, ""),
-    (SCRIPT, "scenario,2024-06-28\nup,112.5"),
-];
-
-// A script's text, and why it is refused.
-const REFUSALS: [(&str, Refusal); 23] = [
-    ("@2024-02-30", Refusal::BadByte { at: 0 }),
-    ("@2024-06-28 a pays 1 ! 2", Refusal::BadByte { at: 21 }),
-    ("@2024-06-28 a pays 1. ", Refusal::BadByte { at: 20 }),
-    ("@2024-06-28 \u{feff}", Refusal::BadByte { at: 12 }),
+// Past fixings and their as-of date, and the report of the script of two dates and the table of one scenario below.
+const PAST_REPORTS: [(&str, &str, &str); 7] = [
     (
-        "@2024-06-28 a pays 100000000000000.0001",
-        Refusal::TooLarge { at: 19 },
-    ),
-    // The limits of tokens are asked before the grammar.
-    (
-        "@2024-06-28 1 100000000000000.0001",
-        Refusal::TooLarge { at: 14 },
-    ),
-    ("@2024-06-28 a pays 1 < 2", Refusal::NotScript),
-    ("@2024-06-28 a pays", Refusal::NotScript),
-    ("@2024-06-28 a pays (1", Refusal::NotScript),
-    ("@2024-06-28 a pays min(1)", Refusal::NotScript),
-    ("@2024-06-28 if (1) then endif", Refusal::NotScript),
-    (
-        "@2024-06-28 if (1 < 2) + 3 > 0 then endif",
-        Refusal::NotScript,
-    ),
-    ("@2024-06-28 if 1 < 2 then a pays 1", Refusal::NotScript),
-    ("schedule from", Refusal::NotScript),
-    (
-        "schedule from @2024-01-31 to @2024-05-15 every 1.0 m do end",
-        Refusal::NotScript,
+        "date,value\n2024-03-15,5000\n2025-03-17,4800\n",
+        "2024-12-31",
+        "scenario,date,leg,amount\ns,2024-03-15,a,5000\ns,2025-03-17,a,2\n#nodes,,,\n",
     ),
     (
-        "schedule from @2024-01-31 to @2024-05-15 every 1 m do end;",
-        Refusal::NotScript,
+        "date,value\n2024-03-15,5000\n2025-03-17,4800\n",
+        "2024-01-01",
+        "scenario,date,leg,amount\ns,2024-03-15,a,1\ns,2025-03-17,a,2\n#nodes,,,\n",
+    ),
+    // The as-of date itself is past.
+    (
+        "date,value\n2024-03-15,5000\n2025-03-17,4800\n",
+        "2025-03-17",
+        "scenario,date,leg,amount\ns,2024-03-15,a,5000\ns,2025-03-17,a,4800\n#nodes,,,\n",
     ),
     (
-        "@2024-01-01 if 1 = 1 then schedule from @2024-01-31 to @2024-05-15 every 1 m do end endif",
-        Refusal::NotScript,
+        "date,value\n2024-03-15,5000\n2025-03-17,4800\n",
+        "2025-03-16",
+        "scenario,date,leg,amount\ns,2024-03-15,a,5000\ns,2025-03-17,a,2\n#nodes,,,\n",
     ),
-    // Dates that are the same, or the wrong way round, and steps of no days and of too many. Items are counted from 1.
+    // An empty past value, and one that is not there, are no fixing, whatever the scenario has.
     (
-        "schedule from @2024-01-31 to @2024-01-31 every 1 m following do a pays days() end",
-        Refusal::BadSchedule { item: 1 },
-    ),
-    (
-        "@2024-01-01 schedule from @2024-05-15 to @2024-01-31 every 1 m do end",
-        Refusal::BadSchedule { item: 2 },
+        "date,value\n2024-03-15,\n2025-03-17,4800\n",
+        "2024-12-31",
+        "scenario,date,leg,amount\ns,2024-03-15,!missing fixing,\n#nodes,,,\n",
     ),
     (
-        "@2024-01-01 @2024-01-02 schedule from @2024-01-31 to @2024-05-15 every 0 d do end schedule from @2024-01-31 to @2024-05-15 every 1000 d do end",
-        Refusal::BadSchedule { item: 3 },
+        "date,value\n2025-03-17,4800\n",
+        "2024-03-15",
+        "scenario,date,leg,amount\ns,2024-03-15,!missing fixing,\n#nodes,,,\n",
     ),
+    // Past fixings may stand in any order.
     (
-        "schedule from @2024-01-31 to @2024-05-15 every 1000 d do end",
-        Refusal::BadSchedule { item: 1 },
-    ),
-    (
-        "schedule from @1900-01-01 to @2199-12-31 every 1 d do end",
-        Refusal::TooMany {
-            what: What::Events,
-            limit: 4_096,
-        },
-    ),
-    // A bad schedule is asked before the number of events, and that before a shared date.
-    (
-        "schedule from @1900-01-01 to @2199-12-31 every 1 d do end schedule from @1900-01-01 to @2199-12-31 every 0 d do end",
-        Refusal::BadSchedule { item: 2 },
+        "\u{feff}Date,\"Value\"\r\n2025-03-17, 4.8e3 \r\n\r\n2024-03-15,\"5000\"",
+        "2025-03-17",
+        "scenario,date,leg,amount\ns,2024-03-15,a,5000\ns,2025-03-17,a,4800\n#nodes,,,\n",
     ),
 ];
 
-// A script of a piece that is repeated between a front and a back, how often, and why it is refused. The names in the
-// pieces differ where they have a `#`, which stands for a number.
-const REPEATED: [(&str, &str, &str, usize, Refusal); 16] = [
-    (
-        "@2024-06-28 a pays ",
-        "(",
-        "",
-        101,
-        Refusal::TooDeep { at: 119 },
-    ),
-    (
-        "@2024-06-28 a pays 1",
-        "+1",
-        "",
-        97,
-        Refusal::TooDeep { at: 212 },
-    ),
-    (
-        "@2024-06-28 a pays ",
-        "-",
-        "1",
-        97,
-        Refusal::TooDeep { at: 115 },
-    ),
-    (
-        "@2024-06-28 ",
-        "if 1=1 then ",
-        "",
-        97,
-        Refusal::TooDeep { at: 1_164 },
-    ),
-    (
-        "@2024-06-28 if ",
-        "not ",
-        "1=1 then endif",
-        97,
-        Refusal::TooDeep { at: 399 },
-    ),
-    // A size is asked before a depth, wherever it stands, and a depth before the grammar.
-    (
-        "@2024-06-28 a pays ",
-        "(",
-        "100000000000000.0001",
-        101,
-        Refusal::TooLarge { at: 120 },
-    ),
-    ("@2024-06-28 a pays ", ")", "", 101, Refusal::NotScript),
-    (
-        "@2024-06-28 ",
-        "n",
-        " = 1",
-        65,
-        Refusal::TooLarge { at: 12 },
-    ),
-    // Too many events are asked before a shared date.
-    (
-        "",
-        "@2024-06-28 ",
-        "",
-        4_097,
-        Refusal::TooMany {
-            what: What::Events,
-            limit: 4_096,
-        },
-    ),
-    (
-        "@2024-06-28 ",
-        "x = 1 ",
-        "",
-        131_073,
-        Refusal::TooMany {
-            what: What::Nodes,
-            limit: 262_144,
-        },
-    ),
-    // An `if`, a comparison, an assignment and three literals.
-    (
-        "@2024-06-28 ",
-        "if 1=1 then x=1 endif ",
-        "",
-        43_691,
-        Refusal::TooMany {
-            what: What::Nodes,
-            limit: 262_144,
-        },
-    ),
-    // The statements of a schedule are counted in each of its 3,599 events.
-    (
-        "schedule from @1900-01-01 to @2199-12-01 every 1 m do ",
-        "x = 1 ",
-        "end",
-        37,
-        Refusal::TooMany {
-            what: What::Nodes,
-            limit: 262_144,
-        },
-    ),
-    (
-        "schedule from @1900-01-01 to @2199-12-01 every 1 m do ",
-        "a pays 1 ",
-        "end",
-        5,
-        Refusal::TooMany {
-            what: What::Pays,
-            limit: 16_384,
-        },
-    ),
-    (
-        "@2024-06-28 ",
-        "a pays 1 ",
-        "",
-        16_385,
-        Refusal::TooMany {
-            what: What::Pays,
-            limit: 16_384,
-        },
-    ),
-    (
-        "@2024-06-28 ",
-        "v# = 1 ",
-        "",
-        1_025,
-        Refusal::TooMany {
-            what: What::Variables,
-            limit: 1_024,
-        },
-    ),
-    (
-        "@2024-06-28 ",
-        "leg# pays 1 ",
-        "",
-        257,
-        Refusal::TooMany {
-            what: What::Legs,
-            limit: 256,
-        },
-    ),
-];
+#[test]
+fn past_fixings_stand_up_to_the_as_of_date(rt: HostRuntime) -> Result<(), Fail> {
+    let alloc = rt.alloc();
+    let script = b"@2024-03-15 a pays spot() @2025-03-17 a pays spot()";
+    let table = b"scenario,2024-03-15,2025-03-17\ns,1,2\n";
+    for (past, asof, report) in PAST_REPORTS {
+        let mut depot = depot_with(alloc, script, table)?;
+        depot.add("p.csv", past.as_bytes())?;
+        let words = [
+            "run",
+            "s.pay",
+            "t.csv",
+            "--fixings",
+            "p.csv",
+            "--asof",
+            asof,
+        ];
+        let words = words_of(alloc, &words)?;
+        let mut out = MemorySink::new(alloc, ROOM)?;
+        let mut err = MemorySink::new(alloc, ROOM)?;
+        assert_eq!(rt; run_tool(alloc, &words, &mut depot, &mut out, &mut err), 0);
+        assert_eq!(rt; out.text(), report.as_bytes());
+    }
+    Ok(())
+}
 
 // Words, and the status that they end with where the depot has a script `s.pay` and a table `t.csv`.
-const WORDS: [(&[&str], u8); 21] = [
+const WORDS: [(&[&str], u8); 24] = [
     (&["run", "s.pay", "t.csv"], 0),
     (&[], 2),
     (&["run", "s.pay"], 2),
     (&["run", "s.pay", "t.csv", "t.csv"], 2),
+    (&["run", "s.pay", "t.csv", "--fixings", "t.csv"], 2),
+    (&["run", "s.pay", "t.csv", "--asof", "2024-06-28"], 2),
+    (
+        &[
+            "run",
+            "s.pay",
+            "t.csv",
+            "--fixings",
+            "absent",
+            "--asof",
+            "2024-06-28",
+        ],
+        4,
+    ),
     (&["run", "", "t.csv"], 2),
     (&["run", "s.pay", ""], 2),
     (&["run", "s.pay", "--"], 2),
@@ -481,123 +337,6 @@ const PIECES: [(u64, u8, &str); 5] = [
     ),
     (5, 0, REPORT),
 ];
-
-// Words as a command line has them.
-fn words_of(alloc: Global, words: &[&str]) -> Result<Vec<String>, AllocError> {
-    let mut texts = Vec::new(alloc);
-    for word in words {
-        texts.push(String::from_str(alloc, word)?)?;
-    }
-    Ok(texts)
-}
-
-// A depot with a script `s.pay` and a table `t.csv`.
-fn depot_with(alloc: Global, script: &[u8], table: &[u8]) -> Result<MemoryDepot, NoMemory> {
-    let mut depot = MemoryDepot::new(alloc);
-    depot.add("s.pay", script)?;
-    depot.add("t.csv", table)?;
-    Ok(depot)
-}
-
-// Whether a text is one line of the program.
-fn is_line(text: &[u8]) -> bool {
-    text.starts_with(b"payscript: ")
-        && text.iter().position(|byte| *byte == b'\n') == Some(text.len() - 1)
-}
-
-// Runs the tool on `s.pay` and `t.csv` of a depot, and looks whether it ends with this status, has put this text to
-// `out`, and to `err` nothing with status 0 and else one line.
-fn ends(
-    rt: &impl Abort,
-    alloc: Global,
-    depot: &mut MemoryDepot,
-    out: &mut MemorySink,
-    status: u8,
-    text: &str,
-) -> Result<(), Fail> {
-    let words = words_of(alloc, &["run", "s.pay", "t.csv"])?;
-    let mut err = MemorySink::new(alloc, ROOM)?;
-    let answer = run_tool(alloc, &words, depot, out, &mut err);
-    assert_eq!(rt; answer, status);
-    assert_eq!(rt; out.text(), text.as_bytes());
-    assert!(rt;
-        if status == 0 {
-            err.text().is_empty()
-        } else {
-            is_line(err.text())
-        }
-    );
-    Ok(())
-}
-
-// A script, a table, and the line to `err` where one of them is refused.
-const LINES: [(&str, &str, &str); 10] = [
-    (
-        "@2024-02-30",
-        TABLE,
-        "payscript: s.pay: byte 0: no token begins here\n",
-    ),
-    (
-        "@2024-06-28 a pays 100000000000000.0001",
-        TABLE,
-        "payscript: s.pay: byte 19: token too large\n",
-    ),
-    (
-        "@2024-06-28 a pays (((((((((((((((((((((((((((((((((((((((((((((((((((((((((((((((((((((((((((((((((((((((((((((((((((((",
-        TABLE,
-        "payscript: s.pay: byte 119: nested too deep\n",
-    ),
-    (
-        "@2024-06-28 a pays 1 < 2",
-        TABLE,
-        "payscript: s.pay: not a script\n",
-    ),
-    (
-        "@2024-01-10 a pays 1 @2024-01-10 a pays 2",
-        TABLE,
-        "payscript: s.pay: two events on 2024-01-10\n",
-    ),
-    (
-        "@2024-01-10 schedule from @2024-01-31 to @2024-01-31 every 1 m do end",
-        TABLE,
-        "payscript: s.pay: item 2: bad schedule\n",
-    ),
-    (
-        "schedule from @2024-01-31 to @2024-05-15 every 1 m following do a pays days() end @2024-04-30 a pays 1",
-        TABLE,
-        "payscript: s.pay: two events on 2024-04-30\n",
-    ),
-    (
-        "schedule from @1900-01-01 to @2199-12-31 every 1 d do end",
-        TABLE,
-        "payscript: s.pay: more than 4096 events\n",
-    ),
-    (SCRIPT, "", "payscript: t.csv: not a table\n"),
-    // The script is looked at first.
-    ("1", "", "payscript: s.pay: not a script\n"),
-];
-
-#[test]
-fn a_refusal_has_its_line(rt: HostRuntime) -> Result<(), Fail> {
-    let alloc = rt.alloc();
-    for (script, table, line) in LINES {
-        let mut depot = depot_with(alloc, script.as_bytes(), table.as_bytes())?;
-        assert_eq!(rt;
-            line_of(alloc, &["run", "s.pay", "t.csv"], &mut depot)?.text(),
-            line.as_bytes()
-        );
-    }
-    Ok(())
-}
-
-// What a run of these words puts to `err`.
-fn line_of(alloc: Global, words: &[&str], depot: &mut MemoryDepot) -> Result<MemorySink, Fail> {
-    let words = words_of(alloc, words)?;
-    let mut out = MemorySink::new(alloc, ROOM)?;
-    let mut err = MemorySink::new(alloc, ROOM)?;
-    run_tool(alloc, &words, depot, &mut out, &mut err);
-    Ok(err)
-}
 
 #[test]
 fn other_statuses_have_their_lines(rt: HostRuntime) -> Result<(), Fail> {
@@ -661,46 +400,6 @@ fn a_command_writes_its_answer(rt: HostRuntime) -> Result<(), Fail> {
     Ok(())
 }
 
-#[test]
-fn a_refused_input_puts_nothing(rt: HostRuntime) -> Result<(), Fail> {
-    let alloc = rt.alloc();
-    for (script, table) in REFUSED {
-        let mut depot = depot_with(alloc, script.as_bytes(), table.as_bytes())?;
-        let mut out = MemorySink::new(alloc, ROOM)?;
-        ends(&rt, alloc, &mut depot, &mut out, 3, "")?;
-    }
-    Ok(())
-}
-
-// Why a script's text is refused.
-fn refusal_of(alloc: Global, text: &[u8]) -> Result<Refusal, Fail> {
-    if text.len() > 1_048_576 {
-        return Err(Fail::new("a script of more bytes than a script file may have"));
-    }
-    let stop = check_script(alloc, text).err();
-    match stop.ok_or("a script that is refused was accepted")? {
-        CheckStop::Refused(refusal) => Ok(refusal),
-        CheckStop::NoMemory => Err(Fail::new("no memory for a script that is refused")),
-    }
-}
-
-#[test]
-fn a_script_is_refused_for_its_first_fault(rt: HostRuntime) -> Result<(), Fail> {
-    let alloc = rt.alloc();
-    for (script, refusal) in REFUSALS {
-        assert_eq!(rt; refusal_of(alloc, script.as_bytes())?, refusal);
-    }
-    for (front, piece, back, count, refusal) in REPEATED {
-        let mut script = String::from_str(alloc, front)?;
-        for number in 0..count {
-            script.push_str(&piece.replace(alloc, "#", &number.to_string(alloc)?)?)?;
-        }
-        script.push_str(back)?;
-        assert_eq!(rt; refusal_of(alloc, script.as_bytes())?, refusal);
-    }
-    Ok(())
-}
-
 // What opens a form and what closes it, on both sides of a middle, and how often: as deep as the limits of tokens allow.
 const DEEPEST: [(&str, &str, &str, &str, &str, usize); 4] = [
     ("", "if 1 = 1 then ", "a pays 1 ", "endif ", "", 96),
@@ -738,36 +437,27 @@ fn the_deepest_ifs_and_brackets_run(rt: HostRuntime) -> Result<(), Fail> {
     Ok(())
 }
 
-// The earliest date that is shared is named, in whatever order the items stand.
-#[test]
-fn a_shared_date_is_named(rt: HostRuntime) -> Result<(), Fail> {
-    let alloc = rt.alloc();
-    let text = b"@2024-03-01 @2024-01-10 a pays 1 @2024-02-12 @2024-01-10 @2024-03-01";
-    let date = Day::new(2024, 1, 10).unwrap();
-    assert_eq!(rt; refusal_of(alloc, text)?, Refusal::SameDate { date });
-    // It is asked before the legs.
-    let mut script = String::from_str(alloc, "@2024-01-10 @2024-01-10 ")?;
-    for number in 0..257_u32 {
-        script.push_str("leg")?;
-        script.push_str(&number.to_string(alloc)?)?;
-        script.push_str(" pays 1 ")?;
-    }
-    assert_eq!(rt;
-        refusal_of(alloc, script.as_bytes())?,
-        Refusal::SameDate { date }
-    );
-    Ok(())
-}
-
 #[test]
 fn words_give_a_request(rt: HostRuntime) -> Result<(), Fail> {
     let alloc = rt.alloc();
-    let words = words_of(alloc, &["run", "s.pay", "t.csv"])?;
+    let words = [
+        "run",
+        "s.pay",
+        "t.csv",
+        "--asof",
+        "2024-01-10",
+        "--fixings",
+        "p.csv",
+    ];
+    let words = words_of(alloc, &words)?;
     let Request::Run(names) = request_of_words(alloc, &words)? else {
         return Err(Fail::new("no request to run"));
     };
     assert_eq!(rt; names.script.as_str(), "s.pay");
     assert_eq!(rt; names.scenarios.as_str(), "t.csv");
+    let past = names.past.ok_or("no past fixings")?;
+    assert_eq!(rt; past.file.as_str(), "p.csv");
+    assert_eq!(rt; past.asof, Day::new(2024, 1, 10).unwrap());
     let none = request_of_words(alloc, &words_of(alloc, &["run"])?);
     assert!(rt; none.err() == Some(WordsFault::NotRequest));
     Ok(())
@@ -812,6 +502,57 @@ fn a_refused_script_ends_the_fetches(rt: HostRuntime) -> Result<(), Fail> {
     ends(&rt, alloc, &mut depot, &mut out, 3, "")?;
     let mut buffer = [0u8; 1];
     assert!(rt; depot.fetch("t.csv", 0, &mut buffer) == Err(FetchFault::Failed));
+    Ok(())
+}
+
+// The words of a run with past fixings.
+const PAST_WORDS: [&str; 7] = [
+    "run",
+    "s.pay",
+    "t.csv",
+    "--fixings",
+    "p.csv",
+    "--asof",
+    "2024-06-28",
+];
+
+// Past fixings, a fetch that fails, and the status. Each of the three files that is read whole takes two fetches; past fixings that
+// are refused are the last input that is fetched.
+const PAST_FETCHES: [(&str, u64, u8); 9] = [
+    ("date,value\n2024-06-28,112.5\n", 1, 4),
+    ("date,value\n2024-06-28,112.5\n", 2, 4),
+    ("date,value\n2024-06-28,112.5\n", 3, 4),
+    ("date,value\n2024-06-28,112.5\n", 4, 4),
+    ("date,value\n2024-06-28,112.5\n", 5, 4),
+    ("date,value\n2024-06-28,112.5\n", 6, 4),
+    ("date,value\n2024-06-28,112.5\n", 7, 0),
+    ("date\n", 4, 4),
+    ("date\n", 5, 3),
+];
+
+#[test]
+fn past_fixings_are_fetched_between_the_script_and_the_scenarios(
+    rt: HostRuntime,
+) -> Result<(), Fail> {
+    let alloc = rt.alloc();
+    let words = words_of(alloc, &PAST_WORDS)?;
+    for (past, call, status) in PAST_FETCHES {
+        let mut depot = depot_with(alloc, SCRIPT.as_bytes(), TABLE.as_bytes())?;
+        depot.add("p.csv", past.as_bytes())?;
+        depot.fail_fetch(call)?;
+        let mut out = MemorySink::new(alloc, ROOM)?;
+        let mut err = MemorySink::new(alloc, ROOM)?;
+        assert_eq!(rt;
+            run_tool(alloc, &words, &mut depot, &mut out, &mut err),
+            status
+        );
+        assert_eq!(rt; out.text().is_empty(), status != 0);
+        if status != 4 {
+            // The fetch that is to fail is still to come.
+            let mut buffer = [0u8; 1];
+            assert!(rt; depot.fetch("t.csv", 0, &mut buffer) == Err(FetchFault::Failed));
+        }
+    }
     Ok(())
 }
 

@@ -1,4 +1,4 @@
-use Rattle.pay_tool.proofs.Checks as proof
+use Rattle.pay_tool.proofs.TableChecks as proof
 use Rattle.pay_tool.proofs.laws.table_acceptance_has_cause.Goals as goal
 
 pub returns : goal.returns

@@ -1,26 +1,49 @@
 -- The three parts of a report, put one after the other.
-use Rattle.std.proofs.Common.{map}
-use Rattle.pay_tool.specs.Report.{header_line, last_line, report_rows}
-use Rattle.pay_tree.specs.Views.{event}
-use Rattle.pay_tool.specs.TableViews.{table}
+use Rattle.std.proofs.Common.{◌≡◌, List, [], map, Option, ap, ◌∙◌}
+use Rattle.std.specs.List.{flat_map}
+use Rattle.pay_dates.specs.declared.day.Day.{Day}
+use Rattle.pay_meaning.specs.Meaning.{Past}
+use Rattle.pay_report.specs.Detail.{header_line, last_line, row_lines}
+use Rattle.pay_tables.specs.declared.scenarios.ScenarioRow.{ScenarioRow}
+use Rattle.pay_tables.specs.declared.scenarios.Scenarios.{Scenarios}
+use Rattle.pay_tables.specs.Views.{row, table}
+use Rattle.pay_tool.specs.declared.aligned.AlignedEvents.{AlignedEvents}
+use Rattle.pay_tool.specs.declared.trade.Trade.{Trade}
+use Rattle.pay_tool.specs.PastViews.{lent_past}
+use Rattle.pay_tool.specs.RowLines.{lines_of}
+use Rattle.pay_tool.specs.TradeViews.{trade}
 use Rattle.pay_tool.proofs.Pieces.{front_first, front_after, put_thrice}
 use Rattle.pay_tool.proofs.put.put_report.Goals as goal
 
-pub returns-in_err-put_piece-clause-front : goal.returns-in_err-put_piece-clause-front
-returns-in_err-put_piece-clause-front g c = front_first header_line _ c.put_piece.ensures.front
+-- the lines of scenarios by aligned events are those of the report
+report_lines : (aligned : AlignedEvents) (found : Trade) (past : Option Past) (scenarios : Scenarios) (rows : List ScenarioRow)
+    → aligned.trade.now ≡ found → lent_past aligned.past ≡ past → aligned.dates.now ≡ scenarios.dates.items → rows ≡ scenarios.rows.items
+    → flat_map (lines_of aligned) (map row rows) ≡ flat_map (row_lines (trade found).events past (table scenarios)) (table scenarios).rows
+report_lines aligned found past scenarios rows of_trade of_past of_dates of_rows =
+    ap (λ (t : Trade). flat_map (row_lines (trade t).events (lent_past aligned.past) (record { dates = aligned.dates.now; rows = [] })) (map row rows)) of_trade
+    ∙ ap (λ (p : Option Past). flat_map (row_lines (trade found).events p (record { dates = aligned.dates.now; rows = [] })) (map row rows)) of_past
+    ∙ ap (λ (dates : List Day). flat_map (row_lines (trade found).events past (record { dates = dates; rows = [] })) (map row rows)) of_dates
+    ∙ ap (λ (xs : List ScenarioRow). flat_map (row_lines (trade found).events past (table scenarios)) (map row xs)) of_rows
+
+pub returns-in_err-put_header-clause-front : goal.returns-in_err-put_header-clause-front
+returns-in_err-put_header-clause-front g c = front_first header_line _ c.put_header.ensures.front
 
 pub returns-in_err-put_rows-clause-front : goal.returns-in_err-put_rows-clause-front
 returns-in_err-put_rows-clause-front g c =
-    let rows = rw (c.in_ok-aligned.ensures.events, c.in_ok-aligned.ensures.dates, c.as_slice.ensures.value, c.as_slice-2.ensures.value) at c.put_rows.ensures.front in
-    front_after _ header_line _ c.in_ok-put_piece.ensures.ok (front_first (report_rows (map event c.args.events.now) (table c.args.scenarios.now)) last_line rows)
+    let lines = report_lines c.in_ok-aligned.aligned c.args.found.now (lent_past c.args.past) c.args.scenarios.now c.as_slice-2.result.now
+    c.in_ok-aligned.ensures.trade c.in_ok-aligned.ensures.past (c.in_ok-aligned.ensures.dates ∙ c.as_slice.ensures.value) c.as_slice-2.ensures.value in
+    front_after _ header_line _ c.in_ok-put_header.ensures.ok (front_first _ last_line (rw lines at c.put_rows.ensures.front))
 
 pub returns-clause-ok : goal.returns-clause-ok
 returns-clause-ok g c =
-    let rows = rw (c.in_ok-aligned.ensures.events, c.in_ok-aligned.ensures.dates, c.as_slice.ensures.value, c.as_slice-2.ensures.value) at c.in_ok-put_rows.ensures.ok in
-    put_thrice c.put_piece-2.result (g.O.Sink.text c.args.out.now) (g.O.Sink.text c.put_piece.new.out) (g.O.Sink.text c.put_rows.new.out) (g.O.Sink.text c.put_piece-2.new.out)
-    header_line (report_rows (map event c.args.events.now) (table c.args.scenarios.now)) last_line c.in_ok-put_piece.ensures.ok rows c.put_piece-2.ensures.ok
+    let lines = report_lines c.in_ok-aligned.aligned c.args.found.now (lent_past c.args.past) c.args.scenarios.now c.as_slice-2.result.now
+    c.in_ok-aligned.ensures.trade c.in_ok-aligned.ensures.past (c.in_ok-aligned.ensures.dates ∙ c.as_slice.ensures.value) c.as_slice-2.ensures.value in
+    put_thrice c.put_last_line.result _ _ _ _ header_line _ last_line c.in_ok-put_header.ensures.ok (rw lines at c.in_ok-put_rows.ensures.ok)
+    c.put_last_line.ensures.ok
 
 pub returns-clause-front : goal.returns-clause-front
 returns-clause-front g c =
-    let rows = rw (c.in_ok-aligned.ensures.events, c.in_ok-aligned.ensures.dates, c.as_slice.ensures.value, c.as_slice-2.ensures.value) at c.in_ok-put_rows.ensures.ok in
-    front_after _ header_line _ c.in_ok-put_piece.ensures.ok (front_after _ (report_rows (map event c.args.events.now) (table c.args.scenarios.now)) last_line rows c.put_piece-2.ensures.front)
+    let lines = report_lines c.in_ok-aligned.aligned c.args.found.now (lent_past c.args.past) c.args.scenarios.now c.as_slice-2.result.now
+    c.in_ok-aligned.ensures.trade c.in_ok-aligned.ensures.past (c.in_ok-aligned.ensures.dates ∙ c.as_slice.ensures.value) c.as_slice-2.ensures.value in
+    front_after _ header_line _ c.in_ok-put_header.ensures.ok
+    (front_after _ _ last_line (rw lines at c.in_ok-put_rows.ensures.ok) c.put_last_line.ensures.front)

@@ -1,7 +1,6 @@
 -- The lines of one row more.
-use Rattle.std.proofs.Common.{◌<◌, length, map, arith}
-use Rattle.pay_tree.specs.Views.{event}
-use Rattle.pay_tool.specs.Report.{row_lines}
+use Rattle.std.proofs.Common.{◌<◌, length, arith}
+use Rattle.pay_tool.specs.RowLines.{lines_of}
 use Rattle.pay_tool.proofs.Pieces.{full_at, row_put, row_part}
 use Rattle.pay_tool.proofs.put.put_rows.Goals as goal
 
@@ -13,12 +12,14 @@ put_row-requires g c =
 pub returns-in_err-put_row-clause-front : goal.returns-in_err-put_row-clause-front
 returns-in_err-put_row-clause-front g c =
     let within : c.loop-scenario.scenario-index < length c.args.rows.now = omega arith in
-    row_part _ _ _ (row_lines (map event c.args.events.now.events.now) c.args.events.now.dates.now) c.args.rows.now c.loop-scenario.scenario-index _ _ within c.scenario-item.is c.loop-scenario.invariant.put c.put_row.ensures.front
+    row_part _ _ _ (lines_of c.args.events.now) c.args.rows.now c.loop-scenario.scenario-index _ _ within c.scenario-item.is
+    c.loop-scenario.invariant.put c.put_row.ensures.front
 
 pub loop-scenario-preserved : goal.loop-scenario-preserved
 loop-scenario-preserved g c =
     let within : c.loop-scenario.scenario-index < length c.args.rows.now = omega arith in
     record {
-      put = row_put _ _ _ (row_lines (map event c.args.events.now.events.now) c.args.events.now.dates.now) c.args.rows.now c.loop-scenario.scenario-index _ _ within c.scenario-item.is c.loop-scenario.invariant.put c.in_ok-put_row.ensures.ok;
+      put = row_put _ _ _ (lines_of c.args.events.now) c.args.rows.now c.loop-scenario.scenario-index _ _ within c.scenario-item.is
+          c.loop-scenario.invariant.put c.in_ok-put_row.ensures.ok;
       never_falls = omega arith;
     }

@@ -1,27 +1,23 @@
--- The report that was put is the answer, and an input that stopped the request is its cause.
-use Rattle.std.proofs.Common.{refl}
-use Rattle.pay_tool.proofs.Ended.{report_given, script_stops, table_stops}
+-- A report that was put is the answer, and an input that ended a run is the cause of its exit.
+use Rattle.std.proofs.Common.{◌≡◌, Option, Some, None, refl, ap}
+use Rattle.std.specs.Borrow.{Bor}
+use Rattle.std.specs.Option.{option_copied}
+use Rattle.pay_tool.specs.declared.past.PastFixings.{PastFixings}
+use Rattle.pay_tool.specs.PastViews.{known_past, lent_past}
+use Rattle.pay_tool.specs.Requests.{run}
+use Rattle.pay_tool.specs.RequestViews.{run_words}
+use Rattle.pay_tool.proofs.Ended.{report_given}
 use Rattle.pay_tool.proofs.run.run.Goals as goal
 
+-- past fixings that are lent are those that are known
+lent_known : (lent : Option (Bor PastFixings)) (past : Option PastFixings) → option_copied lent ≡ past → lent_past lent ≡ known_past past
+lent_known None past same = ap known_past same
+lent_known (Some one) past same = ap known_past same
+
 pub returns-in-Ok-put_report-clause-caused : goal.returns-in-Ok-put_report-clause-caused
-returns-in-Ok-put_report-clause-caused g c = (
-  refl,
-  report_given _ _ _ _ _ _ _ _ (rw c.as_str.ensures.value at c.in-Ok.ensures.accepted) c.read_script.ensures.reads.files
-      (rw c.as_str-2.ensures.value at c.in-Ok-read_table.ensures.accepted) (rw c.as_slice.ensures.value at c.in-Ok-put_report.ensures.ok),
-)
+returns-in-Ok-put_report-clause-caused g c =
+    let same = lent_known _ c.in-Ok.inputs.past c.as_ref.ensures.value in
+    (refl, report_given (run (run_words c.args.words)) _ _ _ _ c.in-Ok.ensures.accepted (rw same at c.in-Ok-put_report.ensures.ok))
 
 pub returns-in-Err-clause-caused : goal.returns-in-Err-clause-caused
-returns-in-Err-clause-caused g c =
-    rw c.exit_at.ensures
-    (script_stops c.args.script c.args.scenarios (g.D.Depot.files c.args.depot.now) (g.D.Depot.read_faults c.args.depot.now)
-    (g.D.Depot.read_faults c.read_script.new.depot) (g.O.Sink.text c.args.out.now) (g.O.Sink.faults c.args.out.now) c.in-Err.stop
-    (rw c.as_str.ensures.value at c.in-Err.ensures.stopped))
-
-pub returns-in-Err-read_table-clause-caused : goal.returns-in-Err-read_table-clause-caused
-returns-in-Err-read_table-clause-caused g c =
-    rw c.exit_at-in-Err-read_table.ensures
-    (table_stops c.args.script c.args.scenarios _ (g.D.Depot.files c.args.depot.now) (g.D.Depot.files c.read_script.new.depot)
-    (g.D.Depot.read_faults c.args.depot.now) (g.D.Depot.read_faults c.read_script.new.depot) (g.D.Depot.read_faults c.read_table.new.depot)
-    (g.O.Sink.text c.args.out.now) (g.O.Sink.faults c.args.out.now) c.in-Err-read_table.stop (rw c.as_str.ensures.value at c.in-Ok.ensures.accepted)
-    c.read_script.ensures.reads.files (c.read_script.ensures.reads.later c.args.scenarios)
-    (rw c.as_str-2.ensures.value at c.in-Err-read_table.ensures.stopped))
+returns-in-Err-clause-caused g c = c.in-Err.ensures.stopped (g.O.Sink.text c.args.out.now) (g.O.Sink.faults c.args.out.now)

@@ -17,7 +17,8 @@ returns-clause-complete g c = search rules
 
 pub returns-clause-pays_as_meant : goal.returns-clause-pays_as_meant
 returns-clause-pays_as_meant g c =
-    λ zero runs. paid (map string_bytes c.args.words.now.items) _ _ _ runs (done_given _ _ _ (sym c.status_of.ensures ∙ zero) c.serve_and_tell-exit.ensures.caused)
+    λ zero runs. paid (map string_bytes c.args.words.now.items) _ _ _ runs
+    (done_given _ _ _ (sym c.status_of.ensures ∙ zero) c.serve_and_tell-exit.ensures.caused)
 
 pub returns-clause-pays_each_script : goal.returns-clause-pays_each_script
 returns-clause-pays_each_script g c = λ payable. returns-clause-complete g c (payable_reports (map string_bytes c.args.words.now.items) _ payable)
