@@ -1,4 +1,4 @@
-//! The text of a date, written once for successive lines of that date.
+//! The texts of dates, kept so that the lines of many scenarios on the same dates share them.
 
 ghost use Rattle.std.specs.Prelude.{◌≡◌, Some, None, OnOk, OnErr, IsTrue, IfSome};
 ghost use Rattle.pay_dates.specs.Days.{day_text};
@@ -28,7 +28,7 @@ impl Model for DateText {
 
 impl DateText {
     /// The text of no date.
-    pub(crate) fn new(alloc: Global) -> DateText
+    fn new(alloc: Global) -> DateText
         ensures { result ≡ None }
     {
         DateText {
@@ -67,5 +67,94 @@ impl DateText {
         ensures { IfSome self.now (λ date. result.now ≡ day_text date) }
     {
         self.text.as_slice()
+    }
+}
+
+/// The most texts that are kept.
+const MOST_TEXTS: usize = 64;
+
+/// Texts of dates in the order in which they were asked for, and which of them is at hand.
+///
+/// Scenarios pay on much the same dates in the same order, so the date after the one at hand is mostly that of the next text.
+#[derive(Drop)]
+pub(crate) struct DateTexts {
+    alloc: Global,
+    kept: Vec<DateText>,
+    /// The place of the text at hand.
+    place: usize,
+}
+
+impl Model for DateTexts {
+    ghost use Rattle.std.specs.Prelude.{Option, None, slice_index_or};
+    ghost use Rattle.pay_dates.specs.Days.{Date as Plain};
+
+    ghost Value = { Option Plain };
+
+    ghost view = { λ texts. slice_index_or texts.kept.items texts.place None };
+}
+
+impl DateTexts {
+    /// No texts.
+    pub(crate) fn new(alloc: Global) -> DateTexts
+        ensures { result ≡ None }
+    {
+        DateTexts {
+            alloc,
+            kept: Vec::new(alloc),
+            place: 0,
+        }
+    }
+
+    /// Whether the text at this place is that of this date.
+    fn is_at(&self, place: usize, date: Day) -> bool {
+        match self.kept.get(place) {
+            Some(text) => text.is_of(date),
+            None => false,
+        }
+    }
+
+    /// Where the text of this date is to be: at hand, if it is there already, else in the next place. The first place comes next after the last text, if it
+    /// has this date or no more texts are kept.
+    fn place_for(&self, date: Day) -> usize {
+        let count = self.kept.len();
+        if self.place >= count || self.is_at(self.place, date) {
+            return self.place;
+        }
+        let next = self.place + 1;
+        if next == MOST_TEXTS || next == count && self.is_at(0, date) {
+            return 0;
+        }
+        next
+    }
+
+    /// Keeps the text of one more date, which is then at hand.
+    fn push(&mut self, date: Day) -> Result<(), NoMemory>
+        ensures { OnOk result (self.new ≡ Some date) }
+    {
+        let mut text = DateText::new(self.alloc);
+        text.set(date)?;
+        self.place = self.kept.len();
+        self.kept.push(text).map_err(|_| NoMemory)
+    }
+
+    /// Makes the text of this date the one at hand; it is written only where it isn't there already.
+    pub(crate) fn set(&mut self, date: Day) -> Result<(), NoMemory>
+        ensures { OnOk result (self.new ≡ Some date) }
+    {
+        self.place = self.place_for(date);
+        match self.kept.get_mut(self.place) {
+            Some(text) => text.set(date),
+            None => self.push(date),
+        }
+    }
+
+    /// The bytes of the text at hand.
+    pub(crate) fn bytes(&self) -> &[u8]
+        ensures { IfSome self.now (λ date. result.now ≡ day_text date) }
+    {
+        match self.kept.get(self.place) {
+            Some(text) => text.bytes(),
+            None => b"".as_slice(),
+        }
     }
 }
