@@ -105,23 +105,32 @@ impl DateTexts {
         }
     }
 
-    /// Whether the text at this place is that of this date.
-    fn is_at(&self, place: usize, date: Day) -> bool {
-        match self.kept.get(place) {
+    /// Whether the text at hand is that of this date.
+    fn is_at_hand(&self, date: Day) -> bool
+        ensures { IsTrue result → self.now ≡ Some date }
+    {
+        match self.kept.get(self.place) {
             Some(text) => text.is_of(date),
             None => false,
         }
     }
 
-    /// Where the text of this date is to be: at hand, if it is there already, else in the next place. The first place comes next after the last text, if it
-    /// has this date or no more texts are kept.
-    fn place_for(&self, date: Day) -> usize {
+    /// Whether the first text is that of this date.
+    fn begins_with(&self, date: Day) -> bool {
+        match self.kept.first() {
+            Some(text) => text.is_of(date),
+            None => false,
+        }
+    }
+
+    /// The place after the one at hand; that is the first place after the last text, if the first text is of this date or no more are kept.
+    fn next_place(&self, date: Day) -> usize {
         let count = self.kept.len();
-        if self.place >= count || self.is_at(self.place, date) {
-            return self.place;
+        if self.place >= count {
+            return count;
         }
         let next = self.place + 1;
-        if next == MOST_TEXTS || next == count && self.is_at(0, date) {
+        if next == MOST_TEXTS || next == count && self.begins_with(date) {
             return 0;
         }
         next
@@ -141,7 +150,10 @@ impl DateTexts {
     pub(crate) fn set(&mut self, date: Day) -> Result<(), NoMemory>
         ensures { OnOk result (self.new ≡ Some date) }
     {
-        self.place = self.place_for(date);
+        if self.is_at_hand(date) {
+            return Ok(());
+        }
+        self.place = self.next_place(date);
         match self.kept.get_mut(self.place) {
             Some(text) => text.set(date),
             None => self.push(date),
