@@ -1,4 +1,4 @@
-//! The texts of dates, kept so that the lines of many scenarios on the same dates share them.
+//! The text of a date, written once for successive lines of that date.
 
 ghost use Rattle.std.specs.Prelude.{◌≡◌, Some, None, OnOk, OnErr, IsTrue, IfSome};
 ghost use Rattle.pay_dates.specs.Days.{day_text};
@@ -28,7 +28,7 @@ impl Model for DateText {
 
 impl DateText {
     /// The text of no date.
-    fn new(alloc: Global) -> DateText
+    pub(crate) fn new(alloc: Global) -> DateText
         ensures { result ≡ None }
     {
         DateText {
@@ -67,106 +67,5 @@ impl DateText {
         ensures { IfSome self.now (λ date. result.now ≡ day_text date) }
     {
         self.text.as_slice()
-    }
-}
-
-/// The most texts that are kept.
-const MOST_TEXTS: usize = 64;
-
-/// Texts of dates in the order in which they were asked for, and which of them is at hand.
-///
-/// Scenarios pay on much the same dates in the same order, so the date after the one at hand is mostly that of the next text.
-#[derive(Drop)]
-pub(crate) struct DateTexts {
-    alloc: Global,
-    kept: Vec<DateText>,
-    /// The place of the text at hand.
-    place: usize,
-}
-
-impl Model for DateTexts {
-    ghost use Rattle.std.specs.Prelude.{Option, None, slice_index_or};
-    ghost use Rattle.pay_dates.specs.Days.{Date as Plain};
-
-    ghost Value = { Option Plain };
-
-    ghost view = { λ texts. slice_index_or texts.kept.items texts.place None };
-}
-
-impl DateTexts {
-    /// No texts.
-    pub(crate) fn new(alloc: Global) -> DateTexts
-        ensures { result ≡ None }
-    {
-        DateTexts {
-            alloc,
-            kept: Vec::new(alloc),
-            place: 0,
-        }
-    }
-
-    /// Whether the text at hand is that of this date.
-    fn is_at_hand(&self, date: Day) -> bool
-        ensures { IsTrue result → self.now ≡ Some date }
-    {
-        match self.kept.get(self.place) {
-            Some(text) => text.is_of(date),
-            None => false,
-        }
-    }
-
-    /// Whether the first text is that of this date.
-    fn begins_with(&self, date: Day) -> bool {
-        match self.kept.first() {
-            Some(text) => text.is_of(date),
-            None => false,
-        }
-    }
-
-    /// The place after the one at hand; that is the first place after the last text, if the first text is of this date or no more are kept.
-    fn next_place(&self, date: Day) -> usize {
-        let count = self.kept.len();
-        if self.place >= count {
-            return count;
-        }
-        let next = self.place + 1;
-        if next == MOST_TEXTS || next == count && self.begins_with(date) {
-            return 0;
-        }
-        next
-    }
-
-    /// Keeps the text of one more date, which is then at hand.
-    fn push(&mut self, date: Day) -> Result<(), NoMemory>
-        ensures { OnOk result (self.new ≡ Some date) }
-    {
-        let mut text = DateText::new(self.alloc);
-        text.set(date)?;
-        self.place = self.kept.len();
-        self.kept.push(text).map_err(|_| NoMemory)
-    }
-
-    /// Makes the text of this date the one at hand; it is written only where it isn't there already.
-    pub(crate) fn set(&mut self, date: Day) -> Result<(), NoMemory>
-        ensures { OnOk result (self.new ≡ Some date) }
-    {
-        if self.is_at_hand(date) {
-            return Ok(());
-        }
-        self.place = self.next_place(date);
-        match self.kept.get_mut(self.place) {
-            Some(text) => text.set(date),
-            None => self.push(date),
-        }
-    }
-
-    /// The bytes of the text at hand.
-    pub(crate) fn bytes(&self) -> &[u8]
-        ensures { IfSome self.now (λ date. result.now ≡ day_text date) }
-    {
-        match self.kept.get(self.place) {
-            Some(text) => text.bytes(),
-            None => b"".as_slice(),
-        }
     }
 }

@@ -6,7 +6,7 @@ ghost use Rattle.pay_fixed.specs.Decimal.{decimal_text};
 ghost use Rattle.pay_report.specs.Detail.{line, fault_name, fault_line};
 ghost use Rattle.pay_report.specs.Lines.{IsPlain, IsReady, IsWhole, written, text_under};
 
-use crate::date_text::DateTexts;
+use crate::date_text::DateText;
 use csv::{Writer, WriterBuilder};
 use pay_dates::Day;
 use pay_fixed::{Fixed, NoMemory};
@@ -18,8 +18,8 @@ use std::alloc::Global;
 pub(crate) struct Lines {
     alloc: Global,
     writer: Writer<Vec<u8>>,
-    /// The texts of the dates of lines, that of the last line at hand.
-    dates: DateTexts,
+    /// The text of the last line's date.
+    date: DateText,
     /// The text of the last line's amount.
     amount: Vec<u8>,
 }
@@ -73,7 +73,7 @@ impl Lines {
         Lines {
             alloc,
             writer: new_writer(alloc),
-            dates: DateTexts::new(alloc),
+            date: DateText::new(alloc),
             amount: Vec::new(alloc),
         }
     }
@@ -120,13 +120,13 @@ impl Lines {
         ensures ready { OnOk result (IsReady self.new.writer) }
         ensures lines { OnOk result (written self.new.writer ≡ written self.old.writer ++ line label.now (day_text date) leg.now (decimal_text amount)) }
     {
-        self.dates.set(date)?;
+        self.date.set(date)?;
         self.amount.clear();
         amount.write_decimal(&mut self.amount)?;
         write_line(
             &mut self.writer,
             label,
-            self.dates.bytes(),
+            self.date.bytes(),
             leg,
             self.amount.as_slice(),
         )
@@ -144,11 +144,11 @@ impl Lines {
         ensures ready { OnOk result (IsReady self.new.writer) }
         ensures lines { OnOk result (written self.new.writer ≡ written self.old.writer ++ fault_line label.now date kind) }
     {
-        self.dates.set(date)?;
+        self.date.set(date)?;
         write_line(
             &mut self.writer,
             label,
-            self.dates.bytes(),
+            self.date.bytes(),
             fault_name(kind),
             b"".as_slice(),
         )

@@ -42,23 +42,4 @@ impl<'a> LegNumbers<'a> {
     {
         self.numbers[&leg]
     }
-
-    /// The number of a leg, which is one of them. No look-up is made where it is the leg after that of the number `last`, or the
-    /// first leg where none is after that one.
-    pub fn number_after(&self, last: u32, leg: &'a Name) -> u32
-        requires { IsTrue (is_one_of self.now.legs.now leg.now) }
-        ensures within { result < length self.now.legs.now }
-        ensures there { get_or self.now.legs.now result [] ≡ leg.now }
-    {
-        let next = last.wrapping_add(1);
-        let guess = if (next as usize) < self.legs.len() {
-            next
-        } else {
-            0
-        };
-        match self.legs.get(guess as usize) {
-            Some(guessed) if guessed.bytes() == leg.bytes() => guess,
-            _ => self.number_of(leg),
-        }
-    }
 }

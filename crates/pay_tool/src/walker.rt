@@ -65,10 +65,7 @@ fn add_payment<'a>(
     ensures in_range { All (λ p. p.leg < length legs.now.legs.now) payments.new.items }
     ensures extends { Extends payments.old.items payments.new.items }
 {
-    let leg = match payments.last() {
-        Some(last) => legs.number_after(last.leg, leg),
-        None => legs.number_of(leg),
-    };
+    let leg = legs.number_of(leg);
     match payments.push(Payment { date, leg, amount }) {
         Ok(()) => Ok(()),
         Err(_) => Err(NoMemory),
