@@ -7,3 +7,6 @@ pub mod Rounding
 pub mod AsSpelled
 pub mod Text
 pub mod Bytes
+pub mod Shares
+pub mod Blends
+pub mod WeightValues

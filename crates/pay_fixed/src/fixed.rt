@@ -45,6 +45,14 @@ impl Fixed {
         }
     }
 
+    /// The number whose raw is `raw`, which lies within the limit.
+    pub(crate) fn within(raw: i128) -> Fixed
+        requires { IsRaw raw }
+        ensures { result ≡ raw }
+    {
+        Fixed { raw: raw as i64 }
+    }
+
     /// The raw of the number, a count of 1/10,000 within the limit.
     pub fn raw(self) -> i64
         ensures same { result ≡ self }

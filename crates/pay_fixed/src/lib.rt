@@ -4,6 +4,8 @@
 //! are rounded, and each answers [`Arith::Overflow`] exactly where it lies beyond the limit; a quotient answers
 //! [`Arith::ZeroDivisor`] before that where its divisor is zero. Text is read by [`read_decimal`] and written by
 //! [`Fixed::write_decimal`]. Whatever has to be rounded is rounded once, to the nearest raw, a half away from zero.
+//! A comparison that is smoothed has a [`weight`] from 0, false, to [`WHOLE`], true, by which [`blend`] blends two
+//! numbers and [`scale`] scales one; these cannot fail, and take no memory.
 //!
 //! Proved: each call is its definition in `specs/`; the module [`laws`] proves of these definitions that they are
 //! the ones meant, and of numbers that they compare as their raws do.
@@ -13,13 +15,15 @@ mod fixed;
 pub mod laws;
 mod read;
 mod round;
-#[cfg(test)]
-mod tests;
+mod smooth;
+mod weights;
 mod write;
 
 pub use fixed::{Fixed, LIMIT};
 pub use read::read_decimal;
+pub use smooth::Smooth;
 use std::alloc::{AllocError, AllocFailed};
+pub use weights::{WHOLE, blend, scale, weight};
 
 /// There was no memory left; nothing was changed.
 #[derive(Clone, Copy, PartialEq, Eq, Debug)]

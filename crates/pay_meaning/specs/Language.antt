@@ -3,6 +3,7 @@
 -- Three forms are in no script that is read: a truth literal, a condition that is sure, and a group. They are what is left of conditions and
 -- ifs once their truth is known before a run.
 use Rattle.std.specs.Prelude.{ℕ, ℤ, Bool, List}
+use Rattle.pay_fixed.specs.declared.smooth.Smooth.{Smooth}
 use Rattle.pay_dates.specs.declared.day.Day.{Day}
 use Rattle.pay_dates.specs.declared.roll.Rule.{Rule}
 use Rattle.pay_dates.specs.declared.roll.Unit.{Unit as StepUnit}
@@ -37,9 +38,10 @@ pub data Comparison : Type 0 where
   equals : Comparison
   differs : Comparison
 
--- what a comparison carries beside its numbers; its truth does not depend on it
+-- what a comparison carries beside its numbers: nothing, or how it weighs where it is smoothed; its truth does not depend on it
 pub data Note : Type 0 where
   bare : Note
+  smoothed : Smooth → Note
 
 -- a condition: two numbers compared, `not`, `and` and `or`; a truth literal; and a condition that is sure, which is asked for its fault alone
 pub data Condition : Type 0 where
