@@ -1,5 +1,7 @@
 -- What the contracts of `pay_tree` cite.
 pub mod Views
+pub mod Owned
+pub mod OwnedViews
 pub mod Text
 pub mod Sizes
 pub mod PartViews
