@@ -2,8 +2,8 @@
 use Rattle.pay_lexer.proofs.LawLemmas.{read_kinds_are_spelled, spelled_tokens_are_read}
 use Rattle.pay_lexer.proofs.TokenForms.{token_forms}
 use Rattle.pay_tree.specs.Text.{script_text}
-use Rattle.pay_parser.specs.TokenLimits.{kinds}
-use Rattle.pay_parser.proofs.ScriptComplete.{spelled_script_is_read}
+use Rattle.pay_grammar.specs.TokenLimits.{kinds}
+use Rattle.pay_grammar.proofs.ScriptComplete.{spelled_script_is_read}
 use Rattle.pay_canonical.specs.CanonicalLaw.{CanonicalTextSpells, CanonicalTextReadsBack}
 use Rattle.pay_canonical.proofs.CanonicalTokens.{script_tokens, script_spelled}
 use Rattle.pay_canonical.proofs.CanonicalLexed.{script_lexed}

@@ -12,10 +12,10 @@ use Rattle.pay_lexer.specs.declared.token.TokenKind.{TokenKind}
 use Rattle.pay_lexer.specs.declared.token.TokenKind.TheVariants as token
 use Rattle.pay_meaning.proofs.EventLaws.{lt-cases}
 use Rattle.pay_meaning.specs.Language.{Script}
-use Rattle.pay_parser.specs.Grammar.{SpellsScript}
-use Rattle.pay_parser.specs.TokenLimits.{kinds, is_open_bracket, is_closing_bracket, is_operator, count, first_too_deep}
-use Rattle.pay_parser.specs.TokenDepths.{begins_after, Depths, nothing_counted, deeper, is_deep, first_deep}
-use Rattle.pay_parser.proofs.DepthLemmas.{first_deep_is}
+use Rattle.pay_grammar.specs.Grammar.{SpellsScript}
+use Rattle.pay_grammar.specs.TokenLimits.{kinds, is_open_bracket, is_closing_bracket, is_operator, count, first_too_deep}
+use Rattle.pay_grammar.specs.TokenDepths.{begins_after, Depths, nothing_counted, deeper, is_deep, first_deep}
+use Rattle.pay_grammar.proofs.DepthLemmas.{first_deep_is}
 use Rattle.pay_canonical.proofs.CanonicalTokens.{IsWrittenScript, script_tokens, script_spelled}
 use Rattle.pay_canonical.proofs.OperatorCounts.{Role, opens, role, begins, Count, count as counts, one_if, counted_as, counted, count_all, total}
 use Rattle.pay_canonical.proofs.OperatorCounts.{script_operators, script_counted}

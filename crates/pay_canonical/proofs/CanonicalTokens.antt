@@ -16,16 +16,16 @@ use Rattle.pay_lexer.specs.declared.token.Sign.TheVariants as sign
 use Rattle.pay_lexer.specs.declared.token.TokenKind.{TokenKind}
 use Rattle.pay_lexer.specs.declared.token.TokenKind.TheVariants as token
 use Rattle.pay_meaning.specs.Language.{Operator, add, subtract, multiply, divide, least, greatest, Number, literal, variable, spot, period, days}
-use Rattle.pay_meaning.specs.Language.{negative, absolute, binary, bare, Condition, compare, negation, conjunction, disjunction, settled, sure, Statement}
-use Rattle.pay_meaning.specs.Language.{assign, pay, choose, group, Body, done, next, Item, plain, scheduled, Script}
+use Rattle.pay_meaning.specs.Language.{negative, absolute, binary, Note, bare, smoothed, Condition, compare, negation, conjunction, disjunction, settled}
+use Rattle.pay_meaning.specs.Language.{sure, Statement, assign, pay, choose, group, Body, done, next, Item, plain, scheduled, Script}
 use Rattle.pay_meaning.specs.Words.{IsName}
 use Rattle.pay_tree.specs.Text.{unless_empty}
-use Rattle.pay_parser.specs.Grammar.{sign_of, bracketed, SpellsNumber, one_term, plus, minus, one_factor, times, over, SpellsFactor, one_atom, minus_sign}
-use Rattle.pay_parser.specs.Grammar.{SpellsAtom, of_literal, of_variable, in_brackets, of_least, of_greatest, of_absolute, of_spot, of_period}
-use Rattle.pay_parser.specs.Grammar.{of_days, two, SpellsCondition, one_conjunction, or_else, one_negation, and_also, SpellsNegation, not_sign}
-use Rattle.pay_parser.specs.Grammar.{two_numbers, condition_in_brackets, assignment, payment, SpellsStatement, simple_ended, choice, SpellsChoice}
-use Rattle.pay_parser.specs.Grammar.{without_else, with_else, SpellsBody, no_statement, one_more, SpellsCount, schedule_tokens, SpellsItem, dated, rolled}
-use Rattle.pay_parser.specs.Grammar.{SpellsScript, no_item, one_more_item}
+use Rattle.pay_grammar.specs.Grammar.{sign_of, bracketed, SpellsNumber, one_term, plus, minus, one_factor, times, over, SpellsFactor, one_atom, minus_sign}
+use Rattle.pay_grammar.specs.Grammar.{SpellsAtom, of_literal, of_variable, in_brackets, of_least, of_greatest, of_absolute, of_spot, of_period}
+use Rattle.pay_grammar.specs.Grammar.{of_days, two, SpellsCondition, one_conjunction, or_else, one_negation, and_also, SpellsNegation, not_sign}
+use Rattle.pay_grammar.specs.Grammar.{two_numbers, condition_in_brackets, assignment, payment, SpellsStatement, simple_ended, choice, SpellsChoice}
+use Rattle.pay_grammar.specs.Grammar.{without_else, with_else, SpellsBody, no_statement, one_more, SpellsCount, schedule_tokens, SpellsItem, dated, rolled}
+use Rattle.pay_grammar.specs.Grammar.{SpellsScript, no_item, one_more_item}
 
 -- what texts can write: each literal within the limit and not below zero, and each name a name
 abbrev pub IsWritten : Number → Type 0
@@ -38,9 +38,14 @@ IsWritten (negative side) = IsWritten side
 IsWritten (absolute side) = IsWritten side
 IsWritten (binary op left right) = IsWritten left × IsWritten right
 
--- the same of a condition, and that it is no truth literal and asks none that is sure
+-- nothing is said beside the numbers of a comparison
+abbrev pub IsBare : Note → Type 0
+IsBare bare = Unit {0}
+IsBare (smoothed smooth) = ⊥
+
+-- the same of a condition, and that it is no truth literal, asks none that is sure, and has no smoothing
 abbrev pub IsWrittenCondition : Condition → Type 0
-IsWrittenCondition (compare op left right note) = IsWritten left × IsWritten right
+IsWrittenCondition (compare op left right note) = IsWritten left × IsWritten right × IsBare note
 IsWrittenCondition (negation side) = IsWrittenCondition side
 IsWrittenCondition (conjunction left right) = IsWrittenCondition left × IsWrittenCondition right
 IsWrittenCondition (disjunction left right) = IsWrittenCondition left × IsWrittenCondition right
@@ -159,6 +164,7 @@ number_spelled n h = number_of (number_tokens n) n (factor_spelled n h)
 -- the tokens of a condition spell it, as one that `not` may stand before
 negation_spelled : (c : Condition) → IsWrittenCondition c → SpellsNegation (condition_tokens c) c
 negation_spelled (compare op left right bare) h = two_numbers op _ _ left right (number_spelled left h.0) (number_spelled right h.1)
+negation_spelled (compare op left right (smoothed smooth)) h = absurd h.2
 negation_spelled (negation side) h = not_sign _ _ (negation_spelled side h)
 negation_spelled (conjunction left right) h =
     let first = one_negation _ _ (negation_spelled left h.0) in

@@ -11,14 +11,14 @@ use Rattle.pay_lexer.specs.declared.token.TokenKind.{TokenKind}
 use Rattle.pay_lexer.specs.declared.token.TokenKind.TheVariants as token
 use Rattle.pay_meaning.specs.Language.{Operator, Number, Condition, Statement, assign, pay, choose, group, Body, done, next, and_then, Terms, Item}
 use Rattle.pay_meaning.specs.Language.{plain, scheduled, Script}
-use Rattle.pay_parser.specs.Grammar.{SpellsNumber, one_term, plus, minus, SpellsTerm, one_factor, times, over, SpellsFactor, one_atom, minus_sign}
-use Rattle.pay_parser.specs.Grammar.{SpellsAtom, of_literal, of_variable, in_brackets, of_least, of_greatest, of_absolute, of_spot, of_period}
-use Rattle.pay_parser.specs.Grammar.{of_days, SpellsArguments, two, one_more_number, SpellsCondition, one_conjunction, or_else, SpellsConjunction}
-use Rattle.pay_parser.specs.Grammar.{one_negation, and_also, SpellsNegation, not_sign, two_numbers, condition_in_brackets, SpellsSimple, assignment}
-use Rattle.pay_parser.specs.Grammar.{payment, SpellsStatement, simple, simple_ended, choice, choice_ended, SpellsChoice, without_else, with_else}
-use Rattle.pay_parser.specs.Grammar.{SpellsBody, no_statement, one_more, rule_tokens, schedule_tokens, SpellsItem, dated, rolled, SpellsScript, no_item}
-use Rattle.pay_parser.specs.Grammar.{one_more_item}
-use Rattle.pay_parser.specs.TokenLimits.{is_if, is_endif, open_ifs}
+use Rattle.pay_grammar.specs.Grammar.{SpellsNumber, one_term, plus, minus, SpellsTerm, one_factor, times, over, SpellsFactor, one_atom, minus_sign}
+use Rattle.pay_grammar.specs.Grammar.{SpellsAtom, of_literal, of_variable, in_brackets, of_least, of_greatest, of_absolute, of_spot, of_period}
+use Rattle.pay_grammar.specs.Grammar.{of_days, SpellsArguments, two, one_more_number, SpellsCondition, one_conjunction, or_else, SpellsConjunction}
+use Rattle.pay_grammar.specs.Grammar.{one_negation, and_also, SpellsNegation, not_sign, two_numbers, condition_in_brackets, SpellsSimple, assignment}
+use Rattle.pay_grammar.specs.Grammar.{payment, SpellsStatement, simple, simple_ended, choice, choice_ended, SpellsChoice, without_else, with_else}
+use Rattle.pay_grammar.specs.Grammar.{SpellsBody, no_statement, one_more, rule_tokens, schedule_tokens, SpellsItem, dated, rolled, SpellsScript, no_item}
+use Rattle.pay_grammar.specs.Grammar.{one_more_item}
+use Rattle.pay_grammar.specs.TokenLimits.{is_if, is_endif, open_ifs}
 
 -- an `if` or an `endif`
 abbrev pub is_if_mark : TokenKind → Bool

@@ -12,14 +12,14 @@ use Rattle.pay_meaning.specs.Language.{Operator, Number, literal, variable, spot
 use Rattle.pay_meaning.specs.Language.{greater, at_least, equals, differs, Condition, compare, negation, conjunction, disjunction, settled, sure}
 use Rattle.pay_meaning.specs.Language.{Statement, assign, pay, choose, group, Body, done, next, and_then, Terms, Item, plain, scheduled, Script}
 use Rattle.pay_meaning.specs.Words.{unit_word}
-use Rattle.pay_parser.specs.Grammar.{SpellsNumber, one_term, plus, minus, SpellsTerm, one_factor, times, over, SpellsFactor, one_atom, minus_sign}
-use Rattle.pay_parser.specs.Grammar.{SpellsAtom, of_literal, of_variable, in_brackets, of_least, of_greatest, of_absolute, of_spot, of_period}
-use Rattle.pay_parser.specs.Grammar.{of_days, SpellsArguments, two, one_more_number, sign_of, SpellsCondition, one_conjunction, or_else}
-use Rattle.pay_parser.specs.Grammar.{SpellsConjunction, one_negation, and_also, SpellsNegation, not_sign, two_numbers, condition_in_brackets}
-use Rattle.pay_parser.specs.Grammar.{SpellsSimple, assignment, payment, SpellsStatement, simple, simple_ended, choice, choice_ended, SpellsChoice}
-use Rattle.pay_parser.specs.Grammar.{without_else, with_else, SpellsBody, no_statement, one_more, rule_tokens, schedule_tokens, SpellsItem, dated, rolled}
-use Rattle.pay_parser.specs.Grammar.{SpellsScript, no_item, one_more_item}
-use Rattle.pay_parser.specs.TokenLimits.{is_word, is_operator}
+use Rattle.pay_grammar.specs.Grammar.{SpellsNumber, one_term, plus, minus, SpellsTerm, one_factor, times, over, SpellsFactor, one_atom, minus_sign}
+use Rattle.pay_grammar.specs.Grammar.{SpellsAtom, of_literal, of_variable, in_brackets, of_least, of_greatest, of_absolute, of_spot, of_period}
+use Rattle.pay_grammar.specs.Grammar.{of_days, SpellsArguments, two, one_more_number, sign_of, SpellsCondition, one_conjunction, or_else}
+use Rattle.pay_grammar.specs.Grammar.{SpellsConjunction, one_negation, and_also, SpellsNegation, not_sign, two_numbers, condition_in_brackets}
+use Rattle.pay_grammar.specs.Grammar.{SpellsSimple, assignment, payment, SpellsStatement, simple, simple_ended, choice, choice_ended, SpellsChoice}
+use Rattle.pay_grammar.specs.Grammar.{without_else, with_else, SpellsBody, no_statement, one_more, rule_tokens, schedule_tokens, SpellsItem, dated, rolled}
+use Rattle.pay_grammar.specs.Grammar.{SpellsScript, no_item, one_more_item}
+use Rattle.pay_grammar.specs.TokenLimits.{is_word, is_operator}
 
 -- what a token is to the one after it: a stretch begins there, or begins there at a word, or goes on
 pub data Role : Type 0 where

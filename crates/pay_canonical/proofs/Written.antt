@@ -13,12 +13,12 @@ use Rattle.pay_lexer.proofs.FrontLemmas.{digits-first}
 use Rattle.pay_lexer.proofs.TokenForms.{HaveForms, forms_front, forms_back}
 use Rattle.pay_meaning.specs.Language.{Operator, Number, Condition, Statement, Body, done, next, and_then, Item, Script}
 use Rattle.pay_meaning.specs.Words.{is_digit}
-use Rattle.pay_parser.specs.Grammar.{SpellsNumber, one_term, plus, minus, SpellsTerm, one_factor, times, over, SpellsFactor, one_atom, minus_sign}
-use Rattle.pay_parser.specs.Grammar.{SpellsAtom, of_literal, of_variable, in_brackets, of_least, of_greatest, of_absolute, of_spot, of_period}
-use Rattle.pay_parser.specs.Grammar.{of_days, SpellsArguments, two, one_more_number, SpellsCondition, one_conjunction, or_else, SpellsConjunction}
-use Rattle.pay_parser.specs.Grammar.{one_negation, and_also, SpellsNegation, not_sign, two_numbers, condition_in_brackets, SpellsSimple, assignment}
-use Rattle.pay_parser.specs.Grammar.{payment, SpellsStatement, simple, simple_ended, choice, choice_ended, SpellsChoice, without_else, with_else}
-use Rattle.pay_parser.specs.Grammar.{SpellsBody, no_statement, one_more, schedule_tokens, SpellsItem, dated, rolled, SpellsScript, no_item, one_more_item}
+use Rattle.pay_grammar.specs.Grammar.{SpellsNumber, one_term, plus, minus, SpellsTerm, one_factor, times, over, SpellsFactor, one_atom, minus_sign}
+use Rattle.pay_grammar.specs.Grammar.{SpellsAtom, of_literal, of_variable, in_brackets, of_least, of_greatest, of_absolute, of_spot, of_period}
+use Rattle.pay_grammar.specs.Grammar.{of_days, SpellsArguments, two, one_more_number, SpellsCondition, one_conjunction, or_else, SpellsConjunction}
+use Rattle.pay_grammar.specs.Grammar.{one_negation, and_also, SpellsNegation, not_sign, two_numbers, condition_in_brackets, SpellsSimple, assignment}
+use Rattle.pay_grammar.specs.Grammar.{payment, SpellsStatement, simple, simple_ended, choice, choice_ended, SpellsChoice, without_else, with_else}
+use Rattle.pay_grammar.specs.Grammar.{SpellsBody, no_statement, one_more, schedule_tokens, SpellsItem, dated, rolled, SpellsScript, no_item, one_more_item}
 use Rattle.pay_canonical.proofs.CanonicalTokens.{IsWritten, IsWrittenCondition, IsWrittenStatement, IsWrittenBody, IsWrittenItem, IsWrittenScript}
 
 -- the digits of a number begin with a digit
@@ -91,7 +91,7 @@ mutual
 
   negation_written : (ts : List TokenKind) (c : Condition) → SpellsNegation ts c → HaveForms ts → IsWrittenCondition c
   negation_written _ _ (not_sign ts c k) h = negation_written ts c k h.1
-  negation_written _ _ (two_numbers op ts us a b k l) h = (number_written ts a k (forms_front ts _ h), number_written us b l (forms_back ts _ h).1)
+  negation_written _ _ (two_numbers op ts us a b k l) h = (number_written ts a k (forms_front ts _ h), number_written us b l (forms_back ts _ h).1, tt)
   negation_written _ _ (condition_in_brackets ts c k) h = condition_written ts c k (forms_front ts _ h.1)
 
 simple_written : (ts : List TokenKind) (s : Statement) → SpellsSimple ts s → HaveForms ts → IsWrittenStatement s

@@ -4,9 +4,9 @@ use Rattle.pay_lexer.specs.declared.token.Token.{Token}
 use Rattle.pay_lexer.specs.Spelling.{SpellsTokens}
 use Rattle.pay_lexer.specs.Lexing.{tokens_in}
 use Rattle.pay_meaning.specs.Language.{Script}
-use Rattle.pay_parser.specs.Grammar.{SpellsScript}
-use Rattle.pay_parser.specs.Reading.{script_in}
-use Rattle.pay_parser.specs.TokenLimits.{kinds, IsWithin}
+use Rattle.pay_grammar.specs.Grammar.{SpellsScript}
+use Rattle.pay_grammar.specs.Reading.{script_in}
+use Rattle.pay_grammar.specs.TokenLimits.{kinds, IsWithin}
 use Rattle.pay_tree.specs.Text.{script_text}
 
 -- the canonical text of a script spells tokens that spell the same script and pass no limit

@@ -1,9 +1,1 @@
-pub mod Grammar
-pub mod Reading
-pub mod ReadingViews
-pub mod GrammarLaws
-pub mod TokenLimits
-pub mod TokenDepths
-pub mod LimitLaws
-pub mod DepthViews
 pub mod Parsing

@@ -5,8 +5,10 @@ use Rattle.pay_lexer.specs.declared.token.Token.{Token}
 use Rattle.pay_meaning.specs.Language.{Script}
 use Rattle.pay_parser.specs.declared.parse_fault.ParseFault.{ParseFault}
 use Rattle.pay_parser.specs.declared.parse_fault.ParseFault.TheVariants.{TooLarge, TooDeep, NotScript, NoMemory}
-use Rattle.pay_parser.specs.Reading.{script_in}
-use Rattle.pay_parser.specs.TokenLimits.{kinds, first_too_large, first_too_deep, IsWithin}
+use Rattle.pay_steps.specs.declared.step_fault.StepFault.{StepFault}
+use Rattle.pay_steps.specs.declared.step_fault.StepFault.TheVariants as step_fault
+use Rattle.pay_grammar.specs.Reading.{script_in}
+use Rattle.pay_grammar.specs.TokenLimits.{kinds, first_too_large, first_too_deep, IsWithin}
 
 -- the place of a token's first byte, if there is one
 abbrev pub start_of : Option Token → Option ℕ
@@ -27,3 +29,8 @@ parsed tokens = judged (start_of (first_too_large tokens)) (start_of (first_too_
 abbrev pub IsFaultOf : List Token → ParseFault → Type 0
 IsFaultOf tokens NoMemory = IsWithin tokens
 IsFaultOf tokens fault = parsed tokens ≡ Err fault
+
+-- where no token can stand the tokens are no script, and want of memory stays what it is
+abbrev pub fault_of_step : StepFault → ParseFault
+fault_of_step step_fault.NotScript = NotScript
+fault_of_step step_fault.NoMemory = NoMemory

@@ -17,27 +17,13 @@
 //! read word by word: the count of its step is a number token without a point, and its unit is one of the names `d`, `w`, `m` and `y`, which stand
 //! for variables and legs everywhere else. Its statements are read as those of any item, up to `end`.
 //!
-//! What tokens spell is said by the relation of `specs/Grammar.antt`, over all ways to cut them. The code takes one token at a time and each
-//! token once, as the reading of `specs/Reading.antt` does: what is open stands on a stack of frames, and a mode says what is awaited. That the
-//! reading finds what the relation says is the law of [`grammar_laws`]. No function is a recursion over the grammar, and the limits of
-//! `specs/TokenLimits.antt`, which bound how deep a tree can be, are asked before any part of a tree is made.
+//! What tokens spell is said by the grammar of `pay_grammar`. The tokens are read by the steps of `pay_steps`, each of them once, and the limits of
+//! `pay_limits`, which bound how deep a tree can be, are asked before any part of a tree is made. Which of these answers comes is said in
+//! `specs/Parsing.antt`.
 #![tactic(auto)]
 
-mod conditions;
-mod endings;
-mod factors;
-pub mod grammar_laws;
-pub mod limit_laws;
-mod logic;
-mod number;
 mod parse_fault;
 mod parser;
-mod place;
-mod schedules;
-mod statements;
-#[cfg(test)]
-mod tests;
-mod token_limits;
 
 pub use parse_fault::ParseFault;
 pub use parser::parse;

@@ -17,14 +17,14 @@ use Rattle.pay_lexer.proofs.LawLemmas.{tokens_are_spelled, spelled_tokens_are_re
 use Rattle.pay_meaning.specs.Language.{Event, Script}
 use Rattle.pay_meaning.specs.Events.{all_events, events_of, in_order, shared_date, IsShared, IsEarliestShared}
 use Rattle.pay_meaning.proofs.EventLaws.{shared-earliest}
-use Rattle.pay_parser.specs.Grammar.{SpellsScript}
-use Rattle.pay_parser.specs.Reading.{script_in}
-use Rattle.pay_parser.specs.TokenLimits.{first_too_large, first_too_deep, IsWithin}
+use Rattle.pay_grammar.specs.Grammar.{SpellsScript}
+use Rattle.pay_grammar.specs.Reading.{script_in}
+use Rattle.pay_grammar.specs.TokenLimits.{first_too_large, first_too_deep, IsWithin}
 use Rattle.pay_parser.specs.Parsing.{start_of, judged, parsed, IsFaultOf}
 use Rattle.pay_parser.specs.declared.parse_fault.ParseFault.{ParseFault}
 use Rattle.pay_parser.specs.declared.parse_fault.ParseFault.TheVariants as parsing
-use Rattle.pay_parser.proofs.ScriptSound.{script_is_spelled}
-use Rattle.pay_parser.proofs.ScriptComplete.{spelled_script_is_read}
+use Rattle.pay_grammar.proofs.ScriptSound.{script_is_spelled}
+use Rattle.pay_grammar.proofs.ScriptComplete.{spelled_script_is_read}
 use Rattle.pay_roll.specs.declared.refusal.What.{What}
 use Rattle.pay_roll.specs.declared.refusal.What.TheVariants.{Events}
 use Rattle.pay_roll.specs.Rolling.{first_bad, first_of}

@@ -3,7 +3,7 @@ use Rattle.std.proofs.Common.{◌≤◌, List, [], ◌∷◌, length, arith}
 use Rattle.std.proofs.lemmas.List.{length-append}
 use Rattle.pay_lexer.specs.declared.token.TokenKind.{TokenKind}
 use Rattle.pay_meaning.specs.Language.{Item, Script}
-use Rattle.pay_parser.specs.Grammar.{SpellsItem, dated, rolled, SpellsScript, no_item, one_more_item}
+use Rattle.pay_grammar.specs.Grammar.{SpellsItem, dated, rolled, SpellsScript, no_item, one_more_item}
 
 -- an item has a token
 item_has_token : (ts : List TokenKind) (i : Item) → SpellsItem ts i → 1 ≤ length ts

@@ -6,8 +6,8 @@ use Rattle.pay_lexer.specs.Spelling.{SpellsTokens, IsBadPlace}
 use Rattle.pay_lexer.specs.Lexing.{kinds}
 use Rattle.pay_meaning.specs.Language.{Script}
 use Rattle.pay_meaning.specs.Events.{all_events, IsShared, IsEarliestShared}
-use Rattle.pay_parser.specs.Grammar.{SpellsScript}
-use Rattle.pay_parser.specs.TokenLimits.{first_too_large, first_too_deep, IsWithin}
+use Rattle.pay_grammar.specs.Grammar.{SpellsScript}
+use Rattle.pay_grammar.specs.TokenLimits.{first_too_large, first_too_deep, IsWithin}
 use Rattle.pay_roll.specs.declared.refusal.What.TheVariants.{Events}
 use Rattle.pay_roll.specs.Rolling.{first_bad, first_of}
 use Rattle.pay_tool.specs.declared.refusal.Refusal.{Refusal}

@@ -9,8 +9,8 @@ use Rattle.pay_meaning.specs.Events.{all_events, events_of, IsShared}
 use Rattle.pay_lexer.specs.declared.token.Token.{Token}
 use Rattle.pay_lexer.specs.Spelling.{SpellsTokens}
 use Rattle.pay_lexer.specs.Lexing.{kinds}
-use Rattle.pay_parser.specs.Grammar.{SpellsScript}
-use Rattle.pay_parser.specs.TokenLimits.{IsWithin}
+use Rattle.pay_grammar.specs.Grammar.{SpellsScript}
+use Rattle.pay_grammar.specs.TokenLimits.{IsWithin}
 use Rattle.pay_tool.specs.Limits.{event_limit, HasGoodSchedules, KeepsLimits}
 use Rattle.pay_tables.specs.Records.{records_in}
 use Rattle.pay_tables.specs.Tables.{Table, cells_of}

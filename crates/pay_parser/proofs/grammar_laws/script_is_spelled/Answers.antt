@@ -1,5 +1,0 @@
-use Rattle.pay_parser.proofs.ScriptSound.{script_is_spelled}
-use Rattle.pay_parser.proofs.grammar_laws.script_is_spelled.Goals as goal
-
-pub returns : goal.returns
-returns c = script_is_spelled

@@ -1,5 +1,0 @@
-use Rattle.pay_parser.proofs.FirstLemmas.{first_too_deep_is_found}
-use Rattle.pay_parser.proofs.limit_laws.first_too_deep_is_found.Goals as goal
-
-pub returns : goal.returns
-returns c = first_too_deep_is_found

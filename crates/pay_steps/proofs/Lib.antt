@@ -1,0 +1,4 @@
+pub mod StackLemmas
+pub mod BodyLemmas
+pub mod SignLemmas
+pub mod NotLemmas
