@@ -1,0 +1,4 @@
+mod RewritingLemmas
+mod StepLemmas
+pub mod KeepingLemmas
+mod ShowingLemmas
