@@ -1,0 +1,13 @@
+pub mod ConditionLemmas
+pub mod EventForms
+pub mod IndexLaws
+pub mod NumberedForms
+pub mod NumberingLemmas
+pub mod OwnNames
+pub mod OwnNumbers
+pub mod TermLaws
+pub mod RisingLemmas
+pub mod ChangesLemmas
+pub mod KeptLemmas
+pub mod GatheringLemmas
+pub mod FillingLemmas
