@@ -1,0 +1,49 @@
+-- Choices that have the variables which their branches assign.
+use Rattle.std.specs.Prelude.{◌≡◌, ℕ, Bool, false, nat_eq, ◌||◌, List, [], ◌∷◌, ◌++◌}
+use Rattle.pay_tree.specs.Owned.{StepTree, assigning, paying, choosing, grouping, StepsTree, no_steps, step_then, EventTree}
+
+abbrev mutual
+  -- the variable that a step assigns, or those that its branches or its steps assign, in the order of the text and as often as they do
+  pub assigned_by : StepTree → List ℕ
+  assigned_by (assigning slot value) = slot ∷ []
+  assigned_by (paying leg amount) = []
+  assigned_by (choosing test yes_part no_part changes) = assigned_in yes_part ++ assigned_in no_part
+  assigned_by (grouping steps) = assigned_in steps
+
+  -- the variables that steps assign
+  pub assigned_in : StepsTree → List ℕ
+  assigned_in no_steps = []
+  assigned_in (step_then step rest) = assigned_by step ++ assigned_in rest
+
+-- whether a number is one of these
+abbrev pub is_among : ℕ → List ℕ → Bool
+is_among slot [] = false
+is_among slot (first ∷ rest) = nat_eq slot first || is_among slot rest
+
+-- no number is there twice
+abbrev pub IsEachOnce : List ℕ → Type 0
+IsEachOnce [] = Unit {0}
+IsEachOnce (first ∷ rest) = (is_among first rest ≡ false) × IsEachOnce rest
+
+-- a list of changes has the variables that one of two branches assigns, and no others, each once
+pub record AreChanges (changes : List ℕ) (yes_part no_part : StepsTree) : Type 0 where
+  pub each_once : IsEachOnce changes
+  pub those : (slot : ℕ) → is_among slot changes ≡ is_among slot (assigned_in yes_part ++ assigned_in no_part)
+
+abbrev mutual
+  -- each choice in a step has the variables that its branches assign
+  pub IsFilled : StepTree → Type 0
+  IsFilled (assigning slot value) = Unit {0}
+  IsFilled (paying leg amount) = Unit {0}
+  IsFilled (choosing test yes_part no_part changes) = AreChanges changes yes_part no_part × (AreFilledSteps yes_part × AreFilledSteps no_part)
+  IsFilled (grouping steps) = AreFilledSteps steps
+
+  -- the same of steps
+  pub AreFilledSteps : StepsTree → Type 0
+  AreFilledSteps no_steps = Unit {0}
+  AreFilledSteps (step_then step rest) = IsFilled step × AreFilledSteps rest
+
+-- the same of events
+abbrev pub AreFilled : List EventTree → Type 0
+AreFilled [] = Unit {0}
+AreFilled (event ∷ rest) = AreFilledSteps event.steps × AreFilled rest

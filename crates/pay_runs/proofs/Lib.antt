@@ -1,0 +1,9 @@
+pub mod WeightLemmas
+pub mod CrispLaw
+pub mod BlendLaw
+pub mod NameLemmas
+pub mod StandLemmas
+pub mod SlotValues
+pub mod SlotEffects
+pub mod SlotNodes
+pub mod SlotLaw
