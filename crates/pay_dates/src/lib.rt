@@ -17,8 +17,6 @@ mod business_day;
 mod day;
 pub mod laws;
 mod roll;
-#[cfg(test)]
-mod tests;
 mod text;
 
 pub use day::Day;

@@ -23,8 +23,6 @@ mod fault;
 mod keyword;
 pub mod laws;
 mod lexer;
-#[cfg(test)]
-mod tests;
 mod token;
 
 pub use fault::LexFault;

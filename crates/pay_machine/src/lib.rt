@@ -6,8 +6,6 @@
 #![tactic(auto)]
 
 mod outcome;
-#[cfg(test)]
-mod tests;
 
 pub use outcome::{End, Outcome, Payment};
 pub use pay_meaning::FaultKind;

@@ -18,8 +18,6 @@ mod date_text;
 mod detail;
 mod detail_writer;
 mod lines;
-#[cfg(test)]
-mod tests;
 
 pub use detail::{detail_header, detail_rows, last_line};
 pub use detail_writer::DetailWriter;

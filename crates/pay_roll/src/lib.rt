@@ -30,8 +30,6 @@ mod order;
 mod plan;
 mod refusal;
 mod rolling;
-#[cfg(test)]
-mod tests;
 
 pub use refusal::{RollRefusal, What};
 pub use rolling::roll;

@@ -35,8 +35,6 @@ mod records;
 mod refusal;
 mod scenario_file;
 mod scenarios;
-#[cfg(test)]
-mod tests;
 
 pub use fixings_file::read_fixings;
 pub use label::{Label, LabelFault};

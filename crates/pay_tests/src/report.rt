@@ -2,10 +2,10 @@
 
 ghost use Rattle.std.specs.Prelude.{◌<◌, All, IfOk};
 
-use crate::{DetailWriter, detail_header, detail_rows, last_line};
 use pay_dates::read_day;
 use pay_fixed::Fixed;
 use pay_machine::{End, FaultKind, Outcome, Payment};
+use pay_report::{DetailWriter, detail_header, detail_rows, last_line};
 use pay_tables::Label;
 use pay_tree::Name;
 use std::alloc::Global;

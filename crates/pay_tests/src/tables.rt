@@ -1,9 +1,8 @@
 //! Tests of files that are read, and of what is refused first.
 
-use crate::records::Records;
-use crate::{Past, TableRefusal, read_fixings, read_scenarios};
 use pay_dates::{Day, read_day, write_day};
 use pay_roll::What;
+use pay_tables::{Past, TableRefusal, read_fixings, read_scenarios};
 use std::alloc::Global;
 use std::test::Fail;
 
@@ -13,38 +12,44 @@ fn no_past_fixings_have_no_rows(rt: HostRuntime) -> Result<(), Fail> {
     Ok(())
 }
 
-// Files, and the fields of their records.
-const RECORDS: [(&[u8], &[&[&[u8]]]); 7] = [
-    (b"", &[]),
-    (b"\xEF\xBB\xBF\r\n\n\r", &[]),
+// Files that show which records and fields `csv` gives: how many records there are, what stands in them, and what a mark, a quote and a blank are.
+const RECORDS: [(&[u8], TableRefusal); 9] = [
+    (b"", TableRefusal::BadHeader),
+    (b"\xEF\xBB\xBF\r\n\n\r", TableRefusal::BadHeader),
     (
-        b"\xEF\xBB\xBF\"a\",b\r\n\r\nc\rd,,\n",
-        &[&[b"a", b"b"], &[b"c"], &[b"d", b"", b""]],
-    ),
-    (b"\xEF\xBB\xBF\xEF\xBB\xBFa", &[&[b"a"]]),
-    (
-        b"\xEF\xBB\xBF\xEF\xBB\xBF\xEF\xBB\xBFa",
-        &[&[b"\xEF\xBB\xBFa"]],
+        b"\xEF\xBB\xBF\"scenario\",2024-06-28\r\n\r\na,\rb,,\n",
+        TableRefusal::BadRow { row: 2 },
     ),
     (
-        b" a\t,\t \n\"\tb \"\"c\"\",\nd \", e f",
-        &[&[b"a", b""], &[b"b \"c\",\nd", b"e f"]],
+        b"\xEF\xBB\xBF\xEF\xBB\xBFscenario,x",
+        TableRefusal::BadDate { place: 2 },
     ),
-    (b"a, \"b\"", &[&[b"a", b"\"b\""]]),
+    (
+        b"\xEF\xBB\xBF\xEF\xBB\xBF\xEF\xBB\xBFscenario,x",
+        TableRefusal::BadHeader,
+    ),
+    (
+        b" scenario\t,\t2024-06-28 \n\"\tb \",1\nc,x",
+        TableRefusal::BadCell { row: 2, column: 2 },
+    ),
+    (
+        b"scenario,2024-06-28\n\"a\",\"1\"\nb,\"1,5\"",
+        TableRefusal::BadCell { row: 2, column: 2 },
+    ),
+    (
+        b"scenario,2024-06-28\na,\"1\n\"",
+        TableRefusal::BadCell { row: 1, column: 2 },
+    ),
+    (
+        b"scenario, \"2024-06-28\"",
+        TableRefusal::BadDate { place: 2 },
+    ),
 ];
 
 #[test]
 fn records_are_those_of_the_file(rt: HostRuntime) -> Result<(), Fail> {
     for (bytes, wanted) in RECORDS {
-        let mut records = Records::new(rt.alloc(), bytes);
-        for fields in wanted {
-            assert_eq!(rt; records.advance(), Ok(true));
-            assert_eq!(rt; records.len(), fields.len());
-            for (at, field) in fields.iter().enumerate() {
-                assert!(rt; records.field(at) == *field);
-            }
-        }
-        assert_eq!(rt; records.advance(), Ok(false));
+        assert_eq!(rt; read_scenarios(rt.alloc(), bytes).err(), Some(wanted));
     }
     Ok(())
 }

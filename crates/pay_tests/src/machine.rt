@@ -1,8 +1,8 @@
 //! An outcome keeps what it is made of.
 
-use crate::{End, FaultKind, Outcome, Payment};
 use pay_dates::Day;
 use pay_fixed::Fixed;
+use pay_machine::{End, FaultKind, Outcome, Payment};
 use std::test::Fail;
 
 #[test]

@@ -8,7 +8,7 @@
 //! 1900-01-01 and 2024-01-01 are Mondays, and 2199-12-31 is a Tuesday. In 2024 the weekends that the schedules meet are 30 and 31 March, 1 and 2, 15 and 16, 29 and
 //! 30 June, and 31 August with 1 September. 1911-03-21 lies 11 years, 2 leap days and 79 days after 1900-01-01, which is 4,096 days.
 
-use crate::{Day, Roll, RollFault, Rule, Unit, laws, read_day, roll_dates, write_day};
+use pay_dates::{Day, Roll, RollFault, Rule, Unit, laws, read_day, roll_dates, write_day};
 use std::cmp::Ordering;
 use std::test::Fail;
 

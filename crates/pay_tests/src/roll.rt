@@ -1,7 +1,7 @@
 //! Tests of the events of scripts that are made by hand.
 
-use crate::{RollRefusal, What, roll};
 use pay_dates::{Day, Rule, Unit, read_day};
+use pay_roll::{RollRefusal, What, roll};
 use pay_tree::{Expr, Item, Name, NamedEvent, Script, Stmt};
 use std::alloc::Global;
 use std::test::Fail;

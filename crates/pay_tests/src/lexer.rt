@@ -1,6 +1,6 @@
 //! Tests of the lexer: tokens with their places, and the first place where nothing begins.
 
-use crate::{Key, LexFault, Sign, Token, TokenKind, lex};
+use pay_lexer::{Key, LexFault, Sign, Token, TokenKind, lex};
 use std::test::Fail;
 
 /// What a token of a test has to be.
