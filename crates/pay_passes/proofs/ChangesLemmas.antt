@@ -3,7 +3,8 @@ use Rattle.std.proofs.Common.{◌≡◌, ℕ, List, ◌++◌, refl, ap, ◌∙�
 use Rattle.pay_tree.specs.Owned.{StepTree, assigning, paying, choosing, grouping, StepsTree, no_steps, step_then}
 use Rattle.pay_tree.specs.Owned.{spelled_test, spelled_step, spelled_steps}
 use Rattle.pay_meaning.specs.Language.{choose, group, next}
-use Rattle.pay_passes.specs.Changes.{assigned_by, assigned_in, rising, changed_by, filled_step, filled_steps}
+use Rattle.pay_tree.specs.Assigned.{assigned_by, assigned_in}
+use Rattle.pay_passes.specs.Changes.{rising, changed_by, filled_step, filled_steps}
 
 mutual
   -- filling changes nothing of what is assigned

@@ -11,7 +11,8 @@ use Rattle.std.proofs.lemmas.Map.Keys.{sorted_tail, below_from_sorted}
 use Rattle.pay_tree.specs.Owned.{NumberTree, literal_at, slot_at, spot_at, unary_at, binary_at, TestTree, truth_at, compare_at, not_at, and_at}
 use Rattle.pay_tree.specs.Owned.{or_at, StepTree, assigning, paying, choosing, grouping, StepsTree, no_steps, step_then}
 use Rattle.pay_visit.specs.Showing.{TreePart, a_step_of, parts_of_number, parts_of_test, parts_of_step, parts_of_steps}
-use Rattle.pay_passes.specs.Changes.{assigned_by, assigned_in, rising}
+use Rattle.pay_tree.specs.Assigned.{assigned_by, assigned_in}
+use Rattle.pay_passes.specs.Changes.{rising}
 use Rattle.pay_passes.specs.PassLaws.{AreLess}
 use Rattle.pay_passes.specs.Gathering.{assigned_by_part, assigned_by_parts, has, HaveSame}
 use Rattle.pay_passes.proofs.RisingLemmas.{rising_less, has_rising, has_both, one_rising}

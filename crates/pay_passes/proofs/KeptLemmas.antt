@@ -13,7 +13,8 @@ use Rattle.pay_meaning.specs.Meaning.{effect_of, effect}
 use Rattle.pay_tree.specs.Owned.{StepTree, assigning, paying, choosing, grouping, StepsTree, no_steps, step_then}
 use Rattle.pay_tree.specs.Owned.{name_at, spelled_number, spelled_test, spelled_step, spelled_steps}
 use Rattle.pay_passes.specs.Trades.{AreDistinct, IsNotIn}
-use Rattle.pay_passes.specs.Changes.{assigned_by, assigned_in, affected_of}
+use Rattle.pay_tree.specs.Assigned.{assigned_by, assigned_in}
+use Rattle.pay_passes.specs.Changes.{affected_of}
 use Rattle.pay_passes.specs.PassLaws.{OthersKeepTheirValue}
 use Rattle.pay_passes.specs.Gathering.{has}
 use Rattle.pay_passes.proofs.RisingLemmas.{absent, neither, has_both, has_rising}

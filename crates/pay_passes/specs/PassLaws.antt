@@ -6,7 +6,8 @@ use Rattle.pay_tree.specs.Owned.{NumberTree, TestTree, StepsTree, spelled_steps,
 use Rattle.pay_visit.specs.Rewriting.{rewritten_number, rewritten_test}
 use Rattle.pay_passes.specs.Terms.{at_own_terms}
 use Rattle.pay_passes.specs.Trades.{AreDistinct, IsNotIn}
-use Rattle.pay_passes.specs.Changes.{assigned_in, affected_of, filled_steps}
+use Rattle.pay_tree.specs.Assigned.{assigned_in}
+use Rattle.pay_passes.specs.Changes.{affected_of, filled_steps}
 use Rattle.pay_passes.specs.Folding.{folding, folded_steps, SameMeaning, AreFolded}
 
 -- events mean the same where `period()` and `days()` are literals in them

@@ -2,6 +2,7 @@
 pub mod Views
 pub mod Owned
 pub mod OwnedViews
+pub mod Assigned
 pub mod Text
 pub mod Sizes
 pub mod PartViews

@@ -1,4 +1,5 @@
-use Rattle.pay_passes.specs.Changes.{assigned_in, affected_of}
+use Rattle.pay_tree.specs.Assigned.{assigned_in}
+use Rattle.pay_passes.specs.Changes.{affected_of}
 use Rattle.pay_passes.proofs.RisingLemmas.{rising_less, has_rising, together_in, had_together, one_rising}
 use Rattle.pay_passes.proofs.laws.affected_are_assigned.Goals as goal
 
