@@ -5,8 +5,8 @@ use Rattle.pay_lexer.specs.declared.token.Token.{Token}
 use Rattle.pay_meaning.specs.Language.{Script}
 use Rattle.pay_parser.specs.declared.parse_fault.ParseFault.{ParseFault}
 use Rattle.pay_parser.specs.declared.parse_fault.ParseFault.TheVariants.{TooLarge, TooDeep, NotScript, NoMemory}
-use Rattle.pay_steps.specs.declared.step_fault.StepFault.{StepFault}
-use Rattle.pay_steps.specs.declared.step_fault.StepFault.TheVariants as step_fault
+use Rattle.pay_place.specs.declared.step_fault.StepFault.{StepFault}
+use Rattle.pay_place.specs.declared.step_fault.StepFault.TheVariants as step_fault
 use Rattle.pay_grammar.specs.Reading.{script_in}
 use Rattle.pay_grammar.specs.TokenLimits.{kinds, first_too_large, first_too_deep, IsWithin}
 

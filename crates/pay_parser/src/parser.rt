@@ -3,7 +3,7 @@
 ghost use Rattle.std.specs.Prelude.{◌≡◌, ◌≤◌, ◌^◌, Some, None, Ok, length, IfOk, IfErr, IsErrOf};
 ghost use Rattle.pay_tree.specs.Views as tree_of;
 ghost use Rattle.pay_grammar.specs.Reading.{script_in};
-ghost use Rattle.pay_steps.specs.ReadingViews as view;
+ghost use Rattle.pay_place.specs.ReadingViews as view;
 ghost use Rattle.pay_grammar.specs.Grammar.{SpellsScript, SpellsNoScript};
 ghost use Rattle.pay_grammar.specs.TokenLimits.{kinds, IsWithin};
 ghost use Rattle.pay_parser.specs.Parsing.{parsed, IsFaultOf};

@@ -5,25 +5,22 @@ ghost use Rattle.pay_fixed.specs.Decimal.{decimal_in};
 ghost use Rattle.pay_lexer.specs.declared.token.TokenKind.{TokenKind};
 ghost use Rattle.pay_tree.specs.Views as tree_of;
 ghost use Rattle.pay_grammar.specs.Reading as reading;
-ghost use Rattle.pay_steps.specs.ReadingViews as view;
-ghost use Rattle.pay_steps.specs.ReadingViews.{Gives};
+ghost use Rattle.pay_place.specs.ReadingViews as view;
+ghost use Rattle.pay_place.specs.ReadingViews.{Gives};
 
-use crate::conditions::{
+use pay_conditions::{
     step_compared, step_comparison, step_group, step_not, step_number_group, step_open,
 };
-use crate::endings::{
-    step_next_else, step_next_end, step_next_endif, step_next_if, step_next_item,
-    step_next_schedule, step_next_statement, step_semicolon,
-};
-use crate::number::{arrived, binary, summed, unary, with_argument};
-use crate::place::{
-    Before, Frame, Innermost, Mode, Product, Stack, State, Sum, Tail, before_factor, innermost_of,
-    opened, with_sign,
-};
-use crate::statements::name_of;
-use crate::step_fault::StepFault;
 use pay_fixed::read_decimal;
 use pay_lexer::{Digits, Key, Letters, Sign, TokenKind};
+use pay_place::{
+    Before, Frame, Innermost, Mode, Product, Stack, State, StepFault, Sum, Tail, arrived,
+    before_factor, binary, innermost_of, opened, summed, unary, with_argument, with_sign,
+};
+use pay_statements::{
+    name_of, step_next_else, step_next_end, step_next_endif, step_next_if, step_next_item,
+    step_next_schedule, step_next_statement, step_semicolon,
+};
 use pay_tree::{Binary, Compare, Expr, Unary};
 use std::alloc::Global;
 

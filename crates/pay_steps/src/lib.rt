@@ -23,17 +23,8 @@
 //! only where it can. How deep a state grows is for its caller to bound.
 #![tactic(auto)]
 
-mod conditions;
-mod endings;
 mod factors;
-mod logic;
-mod number;
-mod place;
-mod schedules;
-mod statements;
-mod step_fault;
 mod steps;
 
-pub use place::{State, start};
-pub use step_fault::StepFault;
+pub use pay_place::{State, StepFault, start};
 pub use steps::{finish, step};

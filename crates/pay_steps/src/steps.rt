@@ -1,17 +1,15 @@
 //! A token after another, by what is awaited.
 
 ghost use Rattle.pay_grammar.specs.Reading as reading;
-ghost use Rattle.pay_steps.specs.ReadingViews as view;
-ghost use Rattle.pay_steps.specs.ReadingViews.{Gives};
+ghost use Rattle.pay_place.specs.ReadingViews as view;
+ghost use Rattle.pay_place.specs.ReadingViews.{Gives};
 
-use crate::conditions::step_condition;
-use crate::endings::finish_after;
 use crate::factors::{step_after, step_bracket, step_call_named, step_call_opened, step_factor};
-use crate::place::{Mode, State, Tail};
-use crate::schedules::step_heading;
-use crate::statements::{closed, step_after_endif, step_free, step_named};
-use crate::step_fault::StepFault;
+use pay_conditions::step_condition;
 use pay_lexer::TokenKind;
+use pay_place::{Mode, State, StepFault, Tail};
+use pay_schedules::step_heading;
+use pay_statements::{closed, finish_after, step_after_endif, step_free, step_named};
 use pay_tree::Item;
 use std::alloc::Global;
 

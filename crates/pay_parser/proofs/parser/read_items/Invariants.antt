@@ -1,6 +1,6 @@
 use Rattle.std.proofs.Common.{◌≡◌, drop}
 use Rattle.pay_grammar.specs.Reading.{read_on, start}
-use Rattle.pay_steps.specs.ReadingViews.{state}
+use Rattle.pay_place.specs.ReadingViews.{state}
 use Rattle.pay_grammar.specs.TokenLimits.{kinds}
 use Rattle.pay_parser.proofs.parser.read_items.Given as goal
 

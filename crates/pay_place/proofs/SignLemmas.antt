@@ -2,7 +2,7 @@
 use Rattle.std.proofs.Common.{◌≡◌, ℕ, suc, ◌+◌, ◌<◌, List, length, drop, refl, arith}
 use Rattle.std.proofs.lemmas.List.{length-drop}
 use Rattle.pay_meaning.specs.Language.{Number, negative}
-use Rattle.pay_steps.specs.declared.place.Prefix.{Prefix}
+use Rattle.pay_place.specs.declared.place.Prefix.{Prefix}
 use Rattle.pay_grammar.specs.Reading.{signed_by}
 
 -- the first of the signs that are left is applied first

@@ -1,4 +1,3 @@
 pub mod StackLemmas
-pub mod BodyLemmas
 pub mod SignLemmas
 pub mod NotLemmas

@@ -5,18 +5,16 @@ ghost use Rattle.pay_meaning.specs.Language.{choose};
 ghost use Rattle.pay_meaning.specs.Words.{IsName};
 ghost use Rattle.pay_tree.specs.Views as tree_of;
 ghost use Rattle.pay_grammar.specs.Reading as reading;
-ghost use Rattle.pay_steps.specs.ReadingViews as view;
-ghost use Rattle.pay_steps.specs.ReadingViews.{Gives};
+ghost use Rattle.pay_place.specs.ReadingViews as view;
+ghost use Rattle.pay_place.specs.ReadingViews.{Gives};
 
-use crate::logic::no_logic;
-use crate::place::{
-    Block, Frame, Head, Innermost, Mode, Opening, Owner, Stack, State, begun_body, between_items,
-    block_of, innermost_of, opened, pushed, script_of,
-};
-use crate::schedules::{step_end, step_schedule};
-use crate::step_fault::StepFault;
+use crate::schedule_bounds::{step_end, step_schedule};
 use pay_dates::Day;
 use pay_lexer::{Key, Letters, Sign, TokenKind};
+use pay_place::{
+    Block, Frame, Head, Innermost, Mode, Opening, Owner, Stack, State, StepFault, begun_body,
+    between_items, block_of, innermost_of, no_logic, opened, pushed, script_of,
+};
 use pay_tree::{Cond, Item, Name, Stmt};
 use std::alloc::Global;
 
@@ -129,9 +127,12 @@ fn chosen(alloc: Global, stack: Stack) -> Result<Stack, StepFault>
         Some(block) => {
             let Block { outer, owner, body } = block;
             match owner {
-                Owner::Item(_) | Owner::Schedule(_) => Err(StepFault::NotScript),
                 Owner::Yes(cond) => with_statement(outer, choice(cond, body, Vec::new(alloc))),
                 Owner::No(cond, yes) => with_statement(outer, choice(cond, yes, body)),
+                other => {
+                    drop(other);
+                    Err(StepFault::NotScript)
+                }
             }
         }
     }

@@ -14,7 +14,7 @@ pub enum StepFault {
 
 impl From<AllocError> for StepFault {
     ghost use Rattle.std.specs.Prelude.{◌≡◌};
-    ghost use Rattle.pay_steps.specs.declared.step_fault.StepFault.{StepFault};
+    ghost use Rattle.pay_place.specs.declared.step_fault.StepFault.{StepFault};
 
     ghost from_gives = { λ _ fault. fault ≡ StepFault.NoMemory };
 
@@ -25,7 +25,7 @@ impl From<AllocError> for StepFault {
 
 impl<T: Drop> From<AllocFailed<T>> for StepFault {
     ghost use Rattle.std.specs.Prelude.{◌≡◌};
-    ghost use Rattle.pay_steps.specs.declared.step_fault.StepFault.{StepFault};
+    ghost use Rattle.pay_place.specs.declared.step_fault.StepFault.{StepFault};
 
     ghost from_gives = { λ _ fault. fault ≡ StepFault.NoMemory };
 
@@ -36,7 +36,7 @@ impl<T: Drop> From<AllocFailed<T>> for StepFault {
 
 impl From<NameFault> for StepFault {
     ghost use Rattle.std.specs.Prelude.{◌≡◌};
-    ghost use Rattle.pay_steps.specs.ReadingViews.{fault_of_name};
+    ghost use Rattle.pay_place.specs.ReadingViews.{fault_of_name};
 
     ghost from_gives = { λ fault step. step ≡ fault_of_name fault };
 

@@ -1,8 +1,8 @@
 -- One `not` more is applied.
 use Rattle.std.proofs.Common.{arith}
 use Rattle.pay_tree.specs.Views.{condition}
-use Rattle.pay_steps.proofs.NotLemmas.{negated_drop}
-use Rattle.pay_steps.proofs.logic.negated_by.Goals as goal
+use Rattle.pay_place.proofs.NotLemmas.{negated_drop}
+use Rattle.pay_place.proofs.logic.negated_by.Goals as goal
 
 pub loop-preserved : goal.loop-preserved
 loop-preserved c =

@@ -1,7 +1,7 @@
 use Rattle.std.proofs.Common.{◌≡◌, drop, length}
 use Rattle.pay_tree.specs.Views.{number}
 use Rattle.pay_grammar.specs.Reading.{signed_by}
-use Rattle.pay_steps.proofs.number.signed_by.Given as goal
+use Rattle.pay_place.proofs.number.signed_by.Given as goal
 
 -- the signs that are left make the rest
 abbrev pub invariant-loop : goal.invariant-loop

@@ -1,8 +1,8 @@
 -- One sign more is applied.
 use Rattle.std.proofs.Common.{arith}
 use Rattle.pay_tree.specs.Views.{number}
-use Rattle.pay_steps.proofs.SignLemmas.{signed_drop}
-use Rattle.pay_steps.proofs.number.signed_by.Goals as goal
+use Rattle.pay_place.proofs.SignLemmas.{signed_drop}
+use Rattle.pay_place.proofs.number.signed_by.Goals as goal
 
 pub loop-preserved : goal.loop-preserved
 loop-preserved c =

@@ -2,7 +2,7 @@
 use Rattle.std.proofs.Common.{◌≡◌, ℕ, suc, ◌+◌, ◌<◌, List, length, drop, refl, arith}
 use Rattle.std.proofs.lemmas.List.{length-drop}
 use Rattle.pay_meaning.specs.Language.{Condition, negation}
-use Rattle.pay_steps.specs.declared.place.Negation.{Negation}
+use Rattle.pay_place.specs.declared.place.Negation.{Negation}
 use Rattle.pay_grammar.specs.Reading.{negated_by}
 
 -- the first of the `not`s that are left is applied first

@@ -3,8 +3,8 @@
 ghost use Rattle.std.specs.Prelude.{◌≡◌, ◌∷◌, [], Some, None, MatchOption};
 ghost use Rattle.pay_meaning.specs.Language.{Number, done};
 ghost use Rattle.pay_grammar.specs.Reading as reading;
-ghost use Rattle.pay_steps.specs.ReadingViews as view;
-ghost use Rattle.pay_steps.specs.ReadingViews.{Gives};
+ghost use Rattle.pay_place.specs.ReadingViews as view;
+ghost use Rattle.pay_place.specs.ReadingViews.{Gives};
 
 use crate::step_fault::StepFault;
 use pay_dates::{Day, Rule, Unit};

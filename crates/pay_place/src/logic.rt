@@ -5,8 +5,8 @@ ghost use Rattle.pay_meaning.specs.Language.{Number, compare as compared, bare, 
 ghost use Rattle.pay_tree.specs.Views as tree_of;
 ghost use Rattle.pay_grammar.specs.Reading as reading;
 ghost use Rattle.pay_grammar.specs.Reading.{Frame};
-ghost use Rattle.pay_steps.specs.ReadingViews as view;
-ghost use Rattle.pay_steps.specs.ReadingViews.{Gives};
+ghost use Rattle.pay_place.specs.ReadingViews as view;
+ghost use Rattle.pay_place.specs.ReadingViews.{Gives};
 
 use crate::number::summed;
 use crate::place::{Logic, Negation, Tail};

@@ -4,8 +4,8 @@ ghost use Rattle.std.specs.Prelude.{◌≡◌, Some, length, option_map};
 ghost use Rattle.pay_meaning.specs.Language.{binary as calculated};
 ghost use Rattle.pay_tree.specs.Views as tree_of;
 ghost use Rattle.pay_grammar.specs.Reading as reading;
-ghost use Rattle.pay_steps.specs.ReadingViews as view;
-ghost use Rattle.pay_steps.specs.ReadingViews.{Gives};
+ghost use Rattle.pay_place.specs.ReadingViews as view;
+ghost use Rattle.pay_place.specs.ReadingViews.{Gives};
 
 use crate::place::{Before, Head, Mode, Prefix, Product, Stack, State, Sum};
 use crate::step_fault::StepFault;

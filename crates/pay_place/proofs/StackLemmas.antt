@@ -2,9 +2,9 @@
 use Rattle.std.proofs.Common.{◌≡◌, List, [], ◌∷◌, ◌++◌, map, refl}
 use Rattle.std.proofs.lemmas.List.{map-append, reverse-append}
 use Rattle.pay_meaning.specs.Language.{Script}
-use Rattle.pay_steps.specs.declared.place.Frame.{Frame as FrameTree}
+use Rattle.pay_place.specs.declared.place.Frame.{Frame as FrameTree}
 use Rattle.pay_grammar.specs.Reading.{a_script}
-use Rattle.pay_steps.specs.ReadingViews.{frame, frames_over}
+use Rattle.pay_place.specs.ReadingViews.{frame, frames_over}
 
 pub frames_over_nil : (script : Script) → frames_over script [] ≡ a_script script ∷ []
 unfolding frames_over

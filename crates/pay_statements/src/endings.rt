@@ -8,20 +8,17 @@ ghost use Rattle.pay_lexer.specs.declared.token.Key.{Key};
 ghost use Rattle.pay_meaning.specs.Language.{and_then, choose, done};
 ghost use Rattle.pay_tree.specs.Views as tree_of;
 ghost use Rattle.pay_grammar.specs.Reading as reading;
-ghost use Rattle.pay_steps.specs.ReadingViews as view;
-ghost use Rattle.pay_steps.specs.ReadingViews.{Gives};
+ghost use Rattle.pay_place.specs.ReadingViews as view;
+ghost use Rattle.pay_place.specs.ReadingViews.{Gives};
 
-use crate::logic::no_logic;
-use crate::number::{headed, summed};
-use crate::place::{
-    Frame, Head, Mode, Opening, Owner, Stack, State, Sum, Unfinished, begun_body, block_of, opened,
-    pushed, script_of, unfinished_of,
-};
-use crate::schedules::{begun_schedule, ended_schedule};
+use crate::schedule_bounds::{begun_schedule, ended_schedule};
 use crate::statements::{added, choice, dated, name_of};
-use crate::step_fault::StepFault;
 use pay_dates::Day;
 use pay_lexer::Letters;
+use pay_place::{
+    Frame, Head, Mode, Opening, Owner, Stack, State, StepFault, Sum, Unfinished, begun_body,
+    block_of, headed, no_logic, opened, pushed, script_of, summed, unfinished_of,
+};
 use pay_tree::{Cond, Expr, Item, Stmt};
 use std::alloc::Global;
 
@@ -193,7 +190,6 @@ fn chosen_after(
         head,
     } = statement;
     match owner {
-        Owner::Item(_) | Owner::Schedule(_) => Err(StepFault::NotScript),
         Owner::Yes(cond) => with_first_branch(alloc, outer, cond, body, head, sum, term),
         Owner::No(cond, yes) => match block_of(outer) {
             None => Err(StepFault::NotScript),
@@ -202,6 +198,10 @@ fn chosen_after(
                 added(within, choice(cond, yes, no))
             }
         },
+        other => {
+            drop(other);
+            Err(StepFault::NotScript)
+        }
     }
 }
 

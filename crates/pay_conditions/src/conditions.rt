@@ -7,17 +7,15 @@ ghost use Rattle.pay_lexer.specs.declared.token.TokenKind.{TokenKind};
 ghost use Rattle.pay_tree.specs.Views as tree_of;
 ghost use Rattle.pay_grammar.specs.Reading as reading;
 ghost use Rattle.pay_grammar.specs.Reading.{Frame as OpenFrame};
-ghost use Rattle.pay_steps.specs.ReadingViews as view;
-ghost use Rattle.pay_steps.specs.ReadingViews.{Gives};
+ghost use Rattle.pay_place.specs.ReadingViews as view;
+ghost use Rattle.pay_place.specs.ReadingViews.{Gives};
 
-use crate::logic::{condition_of, is_no_logic, no_logic, with_and, with_not, with_or};
-use crate::number::{arrived, summed};
-use crate::place::{
-    Before, Frame, Innermost, Logic, Mode, OpenCondition, Opening, Owner, Stack, State, Sum, Tail,
-    begun_body, between_items, fresh, innermost_of, is_fresh, open_condition_of, opened, pushed,
-};
-use crate::step_fault::StepFault;
 use pay_lexer::{Key, Sign, TokenKind};
+use pay_place::{
+    Before, Frame, Innermost, Logic, Mode, OpenCondition, Opening, Owner, Stack, State, StepFault,
+    Sum, Tail, arrived, begun_body, between_items, condition_of, fresh, innermost_of, is_fresh,
+    is_no_logic, no_logic, open_condition_of, opened, pushed, summed, with_and, with_not, with_or,
+};
 use pay_tree::{Compare, Expr};
 use std::alloc::Global;
 

@@ -9,37 +9,37 @@ use Rattle.pay_tree.specs.declared.tree.Stmt.{Stmt}
 use Rattle.pay_tree.specs.declared.name.NameFault.{NameFault}
 use Rattle.pay_tree.specs.declared.name.NameFault.TheVariants as name_fault
 use Rattle.pay_tree.specs.Views.{operator, comparison, number, condition, body, item}
-use Rattle.pay_steps.specs.declared.step_fault.StepFault.{StepFault}
-use Rattle.pay_steps.specs.declared.step_fault.StepFault.TheVariants.{NotScript, NoMemory}
-use Rattle.pay_steps.specs.declared.place.Head.{Head as HeadTree}
-use Rattle.pay_steps.specs.declared.place.Head.TheVariants as head_tree
-use Rattle.pay_steps.specs.declared.place.Sum.{Sum as SumTree}
-use Rattle.pay_steps.specs.declared.place.Sum.TheVariants as sum_tree
-use Rattle.pay_steps.specs.declared.place.Product.{Product as ProductTree}
-use Rattle.pay_steps.specs.declared.place.Product.TheVariants as product_tree
-use Rattle.pay_steps.specs.declared.place.Before.{Before as BeforeTree}
-use Rattle.pay_steps.specs.declared.place.Logic.{Logic as LogicTree}
-use Rattle.pay_steps.specs.declared.place.Opening.{Opening as OpeningTree}
-use Rattle.pay_steps.specs.declared.place.Opening.TheVariants as opening_tree
-use Rattle.pay_steps.specs.declared.place.Tail.{Tail as TailTree}
-use Rattle.pay_steps.specs.declared.place.Tail.TheVariants as tail_tree
-use Rattle.pay_steps.specs.declared.place.Owner.{Owner as OwnerTree}
-use Rattle.pay_steps.specs.declared.place.Owner.TheVariants as owner_tree
-use Rattle.pay_steps.specs.declared.place.Frame.{Frame as FrameTree}
-use Rattle.pay_steps.specs.declared.place.Frame.TheVariants as frame_tree
-use Rattle.pay_steps.specs.declared.place.Stack.{Stack as StackTree}
-use Rattle.pay_steps.specs.declared.place.Innermost.{Innermost as InnermostTree}
-use Rattle.pay_steps.specs.declared.place.Innermost.TheVariants as innermost_tree
-use Rattle.pay_steps.specs.declared.place.Block.{Block as BlockTree}
-use Rattle.pay_steps.specs.declared.place.Unfinished.{Unfinished as UnfinishedTree}
-use Rattle.pay_steps.specs.declared.place.OpenCondition.{OpenCondition as OpenConditionTree}
-use Rattle.pay_steps.specs.declared.place.OpenStatement.{OpenStatement as OpenStatementTree}
-use Rattle.pay_steps.specs.declared.place.Heading.{Heading as HeadingTree}
-use Rattle.pay_steps.specs.declared.place.Heading.TheVariants as heading_tree
-use Rattle.pay_steps.specs.declared.place.Terms.{Terms as TermsTree}
-use Rattle.pay_steps.specs.declared.place.Mode.{Mode as ModeTree}
-use Rattle.pay_steps.specs.declared.place.Mode.TheVariants as mode_tree
-use Rattle.pay_steps.specs.declared.place.State.{State as StateTree}
+use Rattle.pay_place.specs.declared.step_fault.StepFault.{StepFault}
+use Rattle.pay_place.specs.declared.step_fault.StepFault.TheVariants.{NotScript, NoMemory}
+use Rattle.pay_place.specs.declared.place.Head.{Head as HeadTree}
+use Rattle.pay_place.specs.declared.place.Head.TheVariants as head_tree
+use Rattle.pay_place.specs.declared.place.Sum.{Sum as SumTree}
+use Rattle.pay_place.specs.declared.place.Sum.TheVariants as sum_tree
+use Rattle.pay_place.specs.declared.place.Product.{Product as ProductTree}
+use Rattle.pay_place.specs.declared.place.Product.TheVariants as product_tree
+use Rattle.pay_place.specs.declared.place.Before.{Before as BeforeTree}
+use Rattle.pay_place.specs.declared.place.Logic.{Logic as LogicTree}
+use Rattle.pay_place.specs.declared.place.Opening.{Opening as OpeningTree}
+use Rattle.pay_place.specs.declared.place.Opening.TheVariants as opening_tree
+use Rattle.pay_place.specs.declared.place.Tail.{Tail as TailTree}
+use Rattle.pay_place.specs.declared.place.Tail.TheVariants as tail_tree
+use Rattle.pay_place.specs.declared.place.Owner.{Owner as OwnerTree}
+use Rattle.pay_place.specs.declared.place.Owner.TheVariants as owner_tree
+use Rattle.pay_place.specs.declared.place.Frame.{Frame as FrameTree}
+use Rattle.pay_place.specs.declared.place.Frame.TheVariants as frame_tree
+use Rattle.pay_place.specs.declared.place.Stack.{Stack as StackTree}
+use Rattle.pay_place.specs.declared.place.Innermost.{Innermost as InnermostTree}
+use Rattle.pay_place.specs.declared.place.Innermost.TheVariants as innermost_tree
+use Rattle.pay_place.specs.declared.place.Block.{Block as BlockTree}
+use Rattle.pay_place.specs.declared.place.Unfinished.{Unfinished as UnfinishedTree}
+use Rattle.pay_place.specs.declared.place.OpenCondition.{OpenCondition as OpenConditionTree}
+use Rattle.pay_place.specs.declared.place.OpenStatement.{OpenStatement as OpenStatementTree}
+use Rattle.pay_place.specs.declared.place.Heading.{Heading as HeadingTree}
+use Rattle.pay_place.specs.declared.place.Heading.TheVariants as heading_tree
+use Rattle.pay_place.specs.declared.place.Terms.{Terms as TermsTree}
+use Rattle.pay_place.specs.declared.place.Mode.{Mode as ModeTree}
+use Rattle.pay_place.specs.declared.place.Mode.TheVariants as mode_tree
+use Rattle.pay_place.specs.declared.place.State.{State as StateTree}
 use Rattle.pay_grammar.specs.Reading as reading
 use Rattle.pay_grammar.specs.Reading.{Head, assigns, pays, Sum, no_sum, sum_plus, sum_minus, Product, no_product, product_times, product_over}
 use Rattle.pay_grammar.specs.Reading.{Before, Logic, a_logic, Opening, of_if, of_bracket, Owner, of_item, of_schedule, of_yes, of_no, Frame, a_script, a_body}
