@@ -10,7 +10,8 @@ use Rattle.pay_fixed.specs.Weights.{whole as full, blended}
 use Rattle.pay_runs.specs.Weighing.{IsFuzzy}
 use Rattle.pay_runs.specs.Slots.{Slots, slot_value, SlotEffect, SlotMoment, slot_assigned, slot_paid, after_slot_payments, slots_onward, blended_slots}
 use Rattle.pay_runs.specs.Slots.{SlotPayment, blended_slot_effect, slot_split, value_by_slots, weight_by_slots, step_by_slots, steps_by_slots}
-use Rattle.pay_code.specs.Filled.{assigned_by, assigned_in, is_among}
+use Rattle.pay_tree.specs.Assigned.{assigned_by, assigned_in}
+use Rattle.pay_code.specs.Filled.{is_among}
 use Rattle.pay_code.proofs.BlendLemmas.{blended_equal}
 use Rattle.pay_code.proofs.WeightLemmas.{IsWithin, weight_within}
 use Rattle.pay_code.proofs.SlotLemmas.{Agree, blended_length, blended_value}

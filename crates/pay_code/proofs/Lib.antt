@@ -18,3 +18,5 @@ pub mod AddLaw
 pub mod RunBounds
 pub mod FlatBounds
 pub mod PassLaw
+pub mod LoweringLemmas
+pub mod GoodOps

@@ -13,7 +13,8 @@ use Rattle.pay_code.specs.declared.op.Op.{Op}
 use Rattle.pay_code.specs.declared.op.Op.TheVariants as op
 use Rattle.pay_code.specs.Flat.{number_code, test_code, step_table, steps_table, step_code, steps_code}
 use Rattle.pay_code.specs.Execution.{State, paid_on, faulted_on, exec}
-use Rattle.pay_code.specs.Filled.{assigned_in, AreChanges, IsFilled, AreFilledSteps}
+use Rattle.pay_tree.specs.Assigned.{assigned_in}
+use Rattle.pay_code.specs.Filled.{AreChanges, IsFilled, AreFilledSteps}
 use Rattle.pay_code.proofs.RunLemmas.{ends_with, faults_on, with_effect, Gives, Does, before_two, length_two}
 use Rattle.pay_code.proofs.NumberLaw.{number_gives}
 use Rattle.pay_code.proofs.TestLaw.{test_tells}

@@ -115,8 +115,8 @@ compared-within false kind bare a b = certain-within (compared kind a b)
 joint-is : (a b : ℕ) → joint a b ≡ nearest (a * b) whole
 joint-is a b = rw (unsigned_abs-round (pos a *ℤ pos b) (pos whole)) refl
 
-joint-within : (a b : ℕ) → a ≤ whole → b ≤ whole → joint a b ≤ whole
-joint-within a b h k =
+pub joint_within : (a b : ℕ) → a ≤ whole → b ≤ whole → joint a b ≤ whole
+joint_within a b h k =
     let product : a * b ≤ a * whole = mul-le-mul_left a k in
     rw (joint-is a b) (nearest-at_most (a * b) whole whole (omega arith) (omega arith))
 
@@ -127,8 +127,8 @@ product-least a b c d h k =
     let second : (a + c) * d ≡ whole * d = ap (λ n. n * d) h in
     omega arith
 
-either-within : (a b : ℕ) → a ≤ whole → b ≤ whole → either a b ≤ whole
-either-within a b h k =
+pub either_within : (a b : ℕ) → a ≤ whole → b ≤ whole → either a b ≤ whole
+either_within a b h k =
     let least : a + b - whole ≤ nearest (a * b) whole =
     nearest-at_least (a * b) whole (a + b - whole) (omega arith) (product-least a b (whole - a) (whole - b) (omega arith) (omega arith)) in
     rw (joint-is a b) (omega arith)
@@ -160,11 +160,11 @@ side-within false sharp weigh y h k l = one-within weigh y k l
 
 and-within : (x y : Result ℕ FaultKind) → IsWithin x → IsWithin y → IsWithin (and_weight x y)
 and-within (Err fault) y h k = tt
-and-within (Ok a) y h k = side-within (nat_eq a 0) 0 (joint a) y (omega arith) (λ b l. joint-within a b h l) k
+and-within (Ok a) y h k = side-within (nat_eq a 0) 0 (joint a) y (omega arith) (λ b l. joint_within a b h l) k
 
 or-within : (x y : Result ℕ FaultKind) → IsWithin x → IsWithin y → IsWithin (or_weight x y)
 or-within (Err fault) y h k = tt
-or-within (Ok a) y h k = side-within (nat_eq a whole) whole (either a) y (omega arith) (λ b l. either-within a b h l) k
+or-within (Ok a) y h k = side-within (nat_eq a whole) whole (either a) y (omega arith) (λ b l. either_within a b h l) k
 
 -- the weight of a test is at most the whole
 pub weight_within : (fuzzy : IsFuzzy) (test : TestTree) (slots : Slots) (fixing : Option ℤ) → IsWithin (weight_by_slots fuzzy test slots fixing)

@@ -5,3 +5,4 @@ pub mod Filled
 pub mod CodeLaws
 pub mod Bounds
 pub mod BoundLaws
+pub mod Programs

@@ -1,7 +1,10 @@
-//! Laws of flat code and of its runs. Each function is empty: what it ensures is the law.
+//! Laws of flat code and of its runs. The functions do nothing: what one ensures is the law. That programs can be shared by threads is seen by
+//! the calls that the last one makes.
 
 ghost use Rattle.pay_code.specs.BoundLaws.{FlatCodeIsBounded, PartsAreCounted, RunsAreBounded, StepsAddAtMost, StepsPassWithin};
 ghost use Rattle.pay_code.specs.CodeLaws.{CodeMeans};
+
+use crate::program::Program;
 
 /// The flat code of events does what the events mean, and evaluates as many parts.
 pub fn code_means()
@@ -34,3 +37,15 @@ pub fn flat_code_is_bounded()
 pub fn parts_are_counted()
     ensures { PartsAreCounted }
 {}
+
+/// Several threads can read one program at once, and a thread can give it to another.
+pub fn programs_are_shared() {
+    is_shared::<Program>();
+    is_sent::<Program>();
+}
+
+/// Several threads can read a value of such a type at once.
+fn is_shared<T: Sync>() {}
+
+/// A thread can give a value of such a type to another.
+fn is_sent<T: Send>() {}
