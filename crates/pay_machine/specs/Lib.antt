@@ -1,2 +1,8 @@
 -- What the contract of `pay_machine` cites.
 pub mod Outcomes
+pub mod Runs
+pub mod RunLaws
+pub mod Frames
+pub mod Paid
+pub mod Stacks
+pub mod Work

@@ -6,12 +6,14 @@ use Rattle.pay_machine.specs.declared.outcome.Payment.{Payment}
 use Rattle.pay_machine.specs.declared.outcome.End.{End}
 use Rattle.pay_machine.specs.declared.outcome.End.TheVariants.{Done, Fault}
 
--- what a run gives: the payments in order, how the events ended, the last value of each variable by its number, and how many nodes were evaluated
+-- what a run gives: the payments in order, how the events ended, the last value of each variable by its number, and how many nodes were evaluated;
+-- and for how many payments it has room
 pub record Given : Type 0 where
   pub payments : List Payment
   pub end : End
   pub values : List ℤ
   pub nodes : ℕ
+  pub room : ℕ
 
 -- a payment in which a number stands for the leg of these at that place
 abbrev pub payment : List (List ℕ) → Payment → meant.Payment

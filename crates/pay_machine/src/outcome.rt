@@ -1,8 +1,11 @@
 //! What the run of a scenario gives.
 
+use crate::payments::Payments;
+use pay_code::Program;
 use pay_dates::Day;
-use pay_fixed::Fixed;
+use pay_fixed::{Fixed, NoMemory};
 use pay_meaning::FaultKind;
+use std::alloc::Global;
 use std::marker::Model;
 
 /// An amount that a leg is paid at a date.
@@ -30,41 +33,52 @@ pub enum End {
     },
 }
 
-/// What the run of a scenario gives: its payments, how its events ended, and the last values of its variables.
+/// What the run of a scenario gives: its payments, how its events ended, the last values of its variables, and how many nodes were evaluated. It has
+/// room for what the runs of one program give.
 #[derive(Drop)]
 pub struct Outcome {
-    payments: Vec<Payment>,
-    end: End,
-    values: Vec<Fixed>,
-    nodes: u64,
+    pub(crate) payments: Payments,
+    pub(crate) end: End,
+    pub(crate) values: Vec<Fixed>,
+    pub(crate) nodes: u64,
 }
 
 impl Model for Outcome {
+    ghost use Rattle.std.specs.Prelude.{◌++◌};
     ghost use Rattle.pay_machine.specs.Outcomes.{Given};
 
     ghost Value = { Given };
 
-    ghost view = { λ outcome. record { payments = outcome.payments.items; end = outcome.end; values = outcome.values.items; nodes = outcome.nodes } };
+    ghost view = { λ outcome. record {
+      payments = outcome.payments.kept ++ outcome.payments.fresh;
+      end = outcome.end;
+      values = outcome.values.items;
+      nodes = outcome.nodes;
+      room = outcome.payments.room;
+    } };
 }
 
 impl Outcome {
-    ghost use Rattle.std.specs.Prelude.{◌≡◌};
+    ghost use Rattle.std.specs.Prelude.{◌≡◌, IfOk};
+    ghost use Rattle.pay_machine.specs.Runs.{HasRoom};
 
-    /// The outcome of these payments in order, this end, these last values by the numbers of the variables, and so many evaluated nodes.
+    /// An outcome with room for what the runs of a program give. What it has before the first run says nothing.
     ///
-    /// It takes no memory.
-    pub fn of(payments: Vec<Payment>, end: End, values: Vec<Fixed>, nodes: u64) -> Outcome
-        ensures payments { result.payments ≡ payments.items }
-        ensures end { result.end ≡ end }
-        ensures values { result.values ≡ values.items }
-        ensures nodes { result.nodes ≡ nodes }
+    /// # Errors
+    ///
+    /// [`NoMemory`] where there was no memory for the payments or for the values.
+    pub fn prepare(alloc: Global, program: &Program) -> Result<Outcome, NoMemory>
+        ensures { IfOk result (λ outcome. HasRoom outcome program.now) }
     {
-        Outcome {
+        let payments = Payments::prepare(alloc, program.pays() as usize)?;
+        let mut values = Vec::new(alloc);
+        values.extend_from_slice(program.start())?;
+        Ok(Outcome {
             payments,
-            end,
+            end: End::Done,
             values,
-            nodes,
-        }
+            nodes: 0,
+        })
     }
 
     /// The payments in order.

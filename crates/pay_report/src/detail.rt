@@ -80,7 +80,7 @@ pub fn detail_rows(
     Ok(())
 }
 
-/// Appends the last line, `#nodes,,,`: the number of evaluated nodes, which nothing counts yet.
+/// Appends the last line, `#nodes,,,`: its second field is for the number of evaluated nodes, which no report writes yet.
 ///
 /// # Errors
 ///

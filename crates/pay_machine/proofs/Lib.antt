@@ -1,0 +1,7 @@
+pub mod EventLemmas
+pub mod NamedOutcomes
+pub mod PaymentLemmas
+pub mod RunBound
+pub mod StackLemmas
+pub mod Underway
+pub mod ValueLemmas
