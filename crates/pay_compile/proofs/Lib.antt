@@ -1,0 +1,9 @@
+pub mod FoldedLemmas
+pub mod WithinLemmas
+pub mod PartLemmas
+pub mod LegLemmas
+pub mod FilledLemmas
+pub mod UntilLemmas
+pub mod Lowerable
+pub mod ProgramLemmas
+pub mod RefusalLemmas

@@ -1,0 +1,84 @@
+//! A program made of a trade.
+
+ghost use Rattle.std.specs.Prelude.{◌≡◌, ◌≤◌, false, IfOk, length};
+ghost use Rattle.pay_code.specs.Bounds.{pays_in};
+ghost use Rattle.pay_code.specs.Programs.{StandsFor};
+ghost use Rattle.pay_compile.specs.Compiling.{dates_of, events_until, HasOwnLegs, MeansDirectly};
+ghost use Rattle.pay_compile.specs.Prepared.{no_values, prepared};
+ghost use Rattle.pay_passes.specs.Trades.{IsGood, spelled_trade};
+
+use crate::events::prepared_events;
+use pay_code::{Program, lower};
+use pay_dates::Day;
+use pay_fixed::{Fixed, NoMemory};
+use pay_passes::Trade;
+use pay_tree::Name;
+use std::alloc::Global;
+
+/// What a run starts from.
+#[derive(Clone, Copy, PartialEq, Eq, Debug)]
+pub enum Start {
+    /// No event has run: each variable is 0.
+    Fresh,
+}
+
+/// How the conditions of a run are taken.
+#[derive(Clone, Copy, PartialEq, Eq, Debug)]
+pub enum Mode {
+    /// Each is true or false.
+    Crisp,
+}
+
+/// The program of a trade, which has to be good, from this start: that of its events up to `until`, or of all of them, with their constants folded.
+///
+/// # Errors
+///
+/// [`NoMemory`] where there was no memory for the program or for what it is made of.
+pub fn compile(
+    alloc: Global,
+    trade: &Trade,
+    start: &Start,
+    until: Option<Day>,
+    mode: Mode,
+) -> Result<Program, NoMemory>
+    requires { IsGood trade.now }
+    ensures stands { IfOk result (λ program. StandsFor program (prepared until trade.now)) }
+    ensures dates { IfOk result (λ program. program.dates ≡ dates_of (events_until until (spelled_trade trade.now))) }
+    ensures crisp { IfOk result (λ program. program.fuzzy ≡ false) }
+    ensures legs { IfOk result (HasOwnLegs (length trade.now.legs.items)) }
+    ensures pays { IfOk result (λ program. pays_in program.code ≤ 16_384) }
+    ensures means { IfOk result (MeansDirectly trade.now.names.items trade.now.legs.items (events_until until (spelled_trade trade.now))) }
+{
+    let values = start_values(alloc, start, &trade.names)?;
+    let events = prepared_events(alloc, &trade.events, until)?;
+    lower(alloc, &events, &values, is_fuzzy(mode))
+}
+
+/// Whether the runs of this mode read the smoothings of comparisons.
+fn is_fuzzy(mode: Mode) -> bool
+    ensures { result ≡ false }
+{
+    match mode {
+        Mode::Crisp => false,
+    }
+}
+
+/// The values that the variables of these names start from.
+fn start_values(alloc: Global, start: &Start, names: &Vec<Name>) -> Result<Vec<Fixed>, NoMemory>
+    ensures { IfOk result (λ values. values.items ≡ no_values names.now.items) }
+{
+    match start {
+        Start::Fresh => zeros(alloc, names),
+    }
+}
+
+/// A 0 for each of these names.
+fn zeros(alloc: Global, names: &Vec<Name>) -> Result<Vec<Fixed>, NoMemory>
+    ensures { IfOk result (λ values. values.items ≡ no_values names.now.items) }
+{
+    let mut values = Vec::new(alloc);
+    for _name in names {
+        values.push(Fixed::from_raw(0).unwrap())?;
+    }
+    Ok(values)
+}
