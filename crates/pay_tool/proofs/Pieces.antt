@@ -1,7 +1,7 @@
 -- A text that is put in pieces.
-use Rattle.std.proofs.Common.{◌≡◌, ℕ, ◌+◌, ◌<◌, List, ◌++◌, length, get_or, drop, map, Result, Ok, Err, OnOk, All, refl, sym, ap, subst, ◌∙◌}
-use Rattle.std.proofs.Common.{append_assoc}
-use Rattle.std.proofs.lemmas.List.{length-map, drop_more, get_or-map}
+use Rattle.std.proofs.Common.{◌≡◌, ℕ, ◌+◌, ◌<◌, ◌≤◌, List, [], ◌++◌, length, get_or, drop, map, Result, Ok, Err, OnOk, All, refl, sym, ap, subst, ◌∙◌}
+use Rattle.std.proofs.Common.{append_assoc, append-nil}
+use Rattle.std.proofs.lemmas.List.{length-map, drop_all, drop_more, get_or-map}
 use Rattle.std.specs.List.{flat_map}
 use Rattle.pay_tables.specs.declared.scenarios.ScenarioRow.{ScenarioRow}
 use Rattle.pay_tables.specs.Tables.{Row}
@@ -39,6 +39,19 @@ front_after old first second put f = record {
   split = append_assoc first f.front f.rest ∙ ap (λ piece. first ++ piece) f.split;
   text = appended_more old first f.front put f.text;
 }
+
+-- before the first piece nothing was put, and the whole remains
+pub none_put : (told : Option (List ℕ)) (whole : List ℕ) → HasPut told told whole whole
+none_put None whole = record { front = []; split = refl; text = refl }
+none_put (Some text) whole = record { front = []; split = refl; text = ap Some (sym (append-nil text)) }
+
+-- where no row remains the whole was put
+pub rows_put : (old now : Option (List ℕ)) (f : Row → List ℕ) (rows : List ScenarioRow) (i : ℕ) (whole : List ℕ) → length rows ≤ i
+    → HasPut old now (flat_map f (map row (drop i rows))) whole → now ≡ appended old whole
+rows_put old now f rows i whole h put =
+    put.text
+    ∙ ap (appended old) (sym (append-nil put.front)
+    ∙ ap (λ (left : List ScenarioRow). put.front ++ flat_map f (map row left)) (sym (drop_all i rows h)) ∙ put.split)
 
 -- a piece more was put
 put_more : (old now new : Option (List ℕ)) (piece remaining whole : List ℕ) → HasPut old now (piece ++ remaining) whole → new ≡ appended now piece

@@ -17,6 +17,8 @@ use Rattle.pay_tool.specs.Exits.{exit_at}
 use Rattle.pay_tool.specs.InputStops.{StopsAt}
 use Rattle.pay_tool.specs.Reading.{Seen, HaveRead, HasRead, ArePastAsked, StopsAtPast, IsCausedEarly}
 use Rattle.pay_tool.proofs.Inputs.{AreAccepted, read_more, request_read, stopped_at, stopped_first}
+use Rattle.pay_tool.specs.OwnTerms.{input_at_terms}
+use Rattle.pay_tool.proofs.OwnTermLemmas.{by_terms, taken, report_at_terms}
 use Rattle.pay_tool.proofs.PastOrder.{report_same}
 
 -- what follows from two facts of files that are told
@@ -44,12 +46,25 @@ answer_by_table files (Some words) (Some past) events name table are =
     (fun_ext (λ value. sym (report_same events words.asof are.1.0 past.cells value are.1.2)
     ∙ ap (λ (asof : Day). report_text events (Some (record { asof = asof; cells = past.cells })) value) (sym are.0))))
 
+-- the answer to a run by its past fixings and its table, where its script was accepted
+run_by_script : (words : RunWords) (trade : Trade) (files : Files) → input_at_terms (script_of files words.script) ≡ good trade
+    → answer_to (run words) files
+    ≡ answer_by_past files words.past
+    (λ past. answer_by words.scenarios (table_of files words.scenarios) (λ table. report (report_text trade.events past table)))
+run_by_script words trade files script =
+    by_terms words.script (script_of files words.script) trade
+    (λ t. answer_by_past files words.past
+    (λ past. answer_by words.scenarios (table_of files words.scenarios) (λ table. report (report_text t.events past table)))) script
+    (λ t. ap (λ (text : Option Past → Table → List ℕ). answer_by_past files words.past
+    (λ past. answer_by words.scenarios (table_of files words.scenarios) (λ table. report (text past table))))
+    (fun_ext (λ past. fun_ext (λ table. report_at_terms t.events past table))))
+
 -- the answer to a run by its table, where its script and past fixings were accepted
-run_by_table : (words : RunWords) (trade : Trade) (past : Option Past) (files : Files) → script_of files words.script ≡ good trade
+run_by_table : (words : RunWords) (trade : Trade) (past : Option Past) (files : Files) → input_at_terms (script_of files words.script) ≡ good trade
     → ArePastAsked files words.past past
     → answer_to (run words) files ≡ answer_by words.scenarios (table_of files words.scenarios) (λ table. report (report_text trade.events past table))
 run_by_table words trade past files script are =
-    rw script (answer_by_table files words.past past trade.events words.scenarios (table_of files words.scenarios) are)
+    run_by_script words trade files script ∙ answer_by_table files words.past past trade.events words.scenarios (table_of files words.scenarios) are
 
 -- a run that its script stopped
 pub script_stops : (words : RunWords) (old new : Seen) (stop : InputStop)
@@ -64,18 +79,18 @@ script_stops words old new stop stops =
 
 -- a run whose script was accepted read no more than its script and its past fixings
 pub past_read : (script scenarios : List ℕ) (asked : Option PastWords) (trade : Trade) (old middle new : Seen) (exit : Exit)
-    → IfSome old.files (λ files. script_of files script ≡ good trade) → HaveRead (script_input script ∷ []) old middle
+    → IfSome old.files (λ files. input_at_terms (script_of files script) ≡ good trade) → HaveRead (script_input script ∷ []) old middle
     → HaveRead (past_inputs asked) middle new → StopsAtPast asked middle new exit
     → HasRead (run (record { script = script; scenarios = scenarios; past = asked })) old new
 past_read script scenarios None trade old middle new exit is read more stops = absurd stops
 past_read script scenarios (Some words) trade old middle new exit is read more stops =
     request_read (run (record { script = script; scenarios = scenarios; past = Some words })) (script_input script ∷ []) (past_input words)
-    (table_input scenarios ∷ []) old new refl (if_both old.files (λ files e same. (rw e refl, tt)) is is)
+    (table_input scenarios ∷ []) old new refl (if_both old.files (λ files e same. (taken (script_of files script) trade e, tt)) is is)
     (read_more (script_input script ∷ []) (past_input words ∷ []) old middle new read more)
 
 -- a run that its past fixings stopped, after its script was accepted
 pub past_stops : (script scenarios : List ℕ) (asked : Option PastWords) (trade : Trade) (old middle new : Seen) (exit : Exit)
-    → IfSome old.files (λ files. script_of files script ≡ good trade) → HaveRead (script_input script ∷ []) old middle
+    → IfSome old.files (λ files. input_at_terms (script_of files script) ≡ good trade) → HaveRead (script_input script ∷ []) old middle
     → StopsAtPast asked middle new exit → IsCausedEarly (run (record { script = script; scenarios = scenarios; past = asked })) old new exit
 past_stops script scenarios None trade old middle new exit is read stops = absurd stops
 past_stops script scenarios (Some words) trade old middle new exit is read stops =
@@ -84,16 +99,18 @@ past_stops script scenarios (Some words) trade old middle new exit is read stops
     (table_input scenarios ∷ []) old middle new (λ files. past_of files words.file)
     (λ files cells. answer_by scenarios (table_of files scenarios)
     (λ table. report (report_text trade.events (Some (record { asof = words.asof; cells = cells })) table)))
-    stops.0 refl (if_both old.files (λ files e same. (rw e refl, tt)) is is) (if_both old.files (λ files e same. rw e refl) is is) read stops.2)
+    stops.0 refl (if_both old.files (λ files e same. (taken (script_of files script) trade e, tt)) is is)
+    (if_both old.files (λ files e same. run_by_script (record { script = script; scenarios = scenarios; past = Some words }) trade files e) is is)
+    read stops.2)
 
 -- What is known of the inputs before the table: the script and the past fixings were accepted, one after the other.
 pub record Before (words : RunWords) (trade : Trade) (past : Option Past) (old middle : Seen) : Type 0 where
-  pub has : IfSome old.files (λ files. script_of files words.script ≡ good trade)
+  pub has : IfSome old.files (λ files. input_at_terms (script_of files words.script) ≡ good trade)
   pub knows : IfSome old.files (λ files. ArePastAsked files words.past past)
   pub read : HaveRead (script_input words.script ∷ past_inputs words.past) old middle
 
 pub before_table : (words : RunWords) (trade : Trade) (past : Option Past) (old first middle : Seen)
-    → IfSome old.files (λ files. script_of files words.script ≡ good trade) → HaveRead (script_input words.script ∷ []) old first
+    → IfSome old.files (λ files. input_at_terms (script_of files words.script) ≡ good trade) → HaveRead (script_input words.script ∷ []) old first
     → IfSome first.files (λ files. ArePastAsked files words.past past) → HaveRead (past_inputs words.past) first middle
     → Before words trade past old middle
 before_table words trade past old first middle is script_read are past_read = record {
@@ -106,7 +123,7 @@ before_table words trade past old first middle is script_read are past_read = re
 accepted_before : (words : RunWords) (trade : Trade) (past : Option Past) (old middle : Seen) → Before words trade past old middle
     → IfSome old.files (AreAccepted (script_input words.script ∷ past_inputs words.past))
 accepted_before words trade past old middle before =
-    if_both old.files (λ files script known. (rw script refl, past_accepted files words.past past known)) before.has before.knows
+    if_both old.files (λ files script known. (taken (script_of files words.script) trade script, past_accepted files words.past past known)) before.has before.knows
 
 -- a run read no more than its inputs
 pub inputs_read : (words : RunWords) (trade : Trade) (past : Option Past) (old middle new : Seen) → Before words trade past old middle

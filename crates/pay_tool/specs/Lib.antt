@@ -17,11 +17,7 @@ pub mod CheckLaws
 pub mod ToolLaws
 pub mod Fetches
 pub mod Reading
-pub mod Assigned
 pub mod PastViews
-pub mod RunViews
 pub mod RowLines
-pub mod Ran
-pub mod Legs
-pub mod LegPlaces
-pub mod Wants
+pub mod Aligned
+pub mod OwnTerms

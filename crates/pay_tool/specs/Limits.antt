@@ -1,23 +1,24 @@
 -- What a script is refused for, in the order in which it is asked.
-use Rattle.std.specs.Prelude.{◌≡◌, ℕ, ◌≤◌, nat_le, false, List, [], ◌∷◌, ◌++◌, map, length, Option, Some, None, if◌then◌else◌}
+use Rattle.std.specs.Prelude.{◌≡◌, ℕ, ◌≤◌, nat_le, false, List, [], ◌∷◌, map, length, Option, Some, None, if◌then◌else◌}
 use Rattle.std.specs.Option.{option_and_then}
 use Rattle.pay_meaning.specs.Language.{Script}
 use Rattle.pay_meaning.specs.Events.{events_of}
 use Rattle.pay_meaning.specs.Parts.{as_variable, as_leg, event_parts, names_of, payment_count}
-use Rattle.pay_roll.specs.Rolling.{is_bad, roll_refusals}
-use Rattle.pay_roll.specs.declared.refusal.RollRefusal.{RollRefusal}
-use Rattle.pay_roll.specs.declared.refusal.RollRefusal.TheVariants as rolling
+use Rattle.pay_compile.specs.Preparing.{compile_refusals}
+use Rattle.pay_compile.specs.declared.refusal.CompileRefusal.{CompileRefusal}
+use Rattle.pay_compile.specs.declared.refusal.CompileRefusal.TheVariants as compiling
+use Rattle.pay_roll.specs.Rolling.{is_bad}
 use Rattle.pay_roll.specs.declared.refusal.What.{What}
 use Rattle.pay_roll.specs.declared.refusal.What.TheVariants.{Nodes, Pays, Variables, Legs}
 use Rattle.pay_tool.specs.declared.refusal.Refusal.{Refusal}
 use Rattle.pay_tool.specs.declared.refusal.Refusal.TheVariants.{BadSchedule, SameDate, TooMany}
 
--- the refusal of a script that has no events; want of memory is none
-abbrev pub refusal_of_roll : RollRefusal → Option Refusal
-refusal_of_roll (rolling.BadSchedule item) = Some (BadSchedule item)
-refusal_of_roll (rolling.SameDate date) = Some (SameDate date)
-refusal_of_roll (rolling.TooMany what limit) = Some (TooMany what limit)
-refusal_of_roll rolling.NoMemory = None
+-- why a script is no trade, as the refusal of its file; want of memory is none
+abbrev pub refusal_of_compile : CompileRefusal → Option Refusal
+refusal_of_compile (compiling.BadSchedule item) = Some (BadSchedule item)
+refusal_of_compile (compiling.SameDate date) = Some (SameDate date)
+refusal_of_compile (compiling.TooMany what limit) = Some (TooMany what limit)
+refusal_of_compile compiling.NoMemory = None
 
 -- the refusal where there are more than so many
 abbrev pub refusal_beyond : What → ℕ → ℕ → Option Refusal
@@ -31,7 +32,7 @@ name_refusals script =
 -- what a script is refused for: why it has no events, which are its first bad schedule, its number of events, the earliest date that two of them
 -- share, and their nodes and payments; and then its names
 abbrev pub script_refusals : Script → List (Option Refusal)
-script_refusals script = map (option_and_then refusal_of_roll) (roll_refusals script) ++ name_refusals script
+script_refusals script = map (option_and_then refusal_of_compile) (compile_refusals script)
 
 -- 4,096 events
 abbrev pub event_limit : ℕ

@@ -1,11 +1,11 @@
 -- Why a check stopped.
-use Rattle.std.specs.Prelude.{◌≡◌, ℕ, List, Option, Some}
+use Rattle.std.specs.Prelude.{◌≡◌, ℕ, List}
 use Rattle.pay_lexer.specs.declared.fault.LexFault.{LexFault}
 use Rattle.pay_lexer.specs.declared.fault.LexFault.TheVariants as lexing
 use Rattle.pay_parser.specs.declared.parse_fault.ParseFault.{ParseFault}
 use Rattle.pay_parser.specs.declared.parse_fault.ParseFault.TheVariants as parsing
-use Rattle.pay_roll.specs.declared.refusal.RollRefusal.{RollRefusal}
-use Rattle.pay_roll.specs.declared.refusal.RollRefusal.TheVariants as rolling
+use Rattle.pay_compile.specs.declared.refusal.CompileRefusal.{CompileRefusal}
+use Rattle.pay_compile.specs.declared.refusal.CompileRefusal.TheVariants as compiling
 use Rattle.pay_tool.specs.declared.script.CheckStop.{CheckStop}
 use Rattle.pay_tool.specs.declared.script.CheckStop.TheVariants.{Refused, NoMemory}
 use Rattle.pay_tool.specs.declared.refusal.Refusal.{Refusal}
@@ -24,22 +24,17 @@ stop_of_parsing (parsing.TooDeep at) = Refused (TooDeep at)
 stop_of_parsing parsing.NotScript = Refused NotScript
 stop_of_parsing parsing.NoMemory = NoMemory
 
--- the stop of a script that has no events
-abbrev pub stop_of_rolling : RollRefusal → CheckStop
-stop_of_rolling (rolling.BadSchedule item) = Refused (BadSchedule item)
-stop_of_rolling (rolling.SameDate date) = Refused (SameDate date)
-stop_of_rolling (rolling.TooMany what limit) = Refused (TooMany what limit)
-stop_of_rolling rolling.NoMemory = NoMemory
+-- the stop of a script that is no trade
+abbrev pub stop_of_compiling : CompileRefusal → CheckStop
+stop_of_compiling (compiling.BadSchedule item) = Refused (BadSchedule item)
+stop_of_compiling (compiling.SameDate date) = Refused (SameDate date)
+stop_of_compiling (compiling.TooMany what limit) = Refused (TooMany what limit)
+stop_of_compiling compiling.NoMemory = NoMemory
 
 -- an input is refused for this reason; of want of memory nothing is said
 abbrev pub Stops : {A : Type 0} → Input A → CheckStop → Type 0
 Stops input (Refused refusal) = input ≡ bad refusal
 Stops input NoMemory = Unit {0}
-
--- there is a refusal, and it is this one; of want of memory nothing is said
-abbrev pub StopsFor : Option Refusal → CheckStop → Type 0
-StopsFor found (Refused refusal) = found ≡ Some refusal
-StopsFor found NoMemory = Unit {0}
 
 -- the same of a script's text
 abbrev pub StopsScript : List ℕ → CheckStop → Type 0

@@ -1,8 +1,7 @@
--- A checked script of the code as plain data.
-use Rattle.std.specs.Prelude.{map}
-use Rattle.pay_tree.specs.Views.{event}
-use Rattle.pay_tool.specs.declared.trade.Trade.{Trade}
+-- A trade of the code as what a script has: its events are those that it stands for.
+use Rattle.pay_passes.specs.declared.trade.Trade.{Trade}
+use Rattle.pay_passes.specs.Trades.{spelled_trade}
 use Rattle.pay_tool.specs.Trades as meant
 
 abbrev pub trade : Trade → meant.Trade
-trade t = record { variables = t.variables.items; legs = t.legs.items; events = map event t.events.items }
+trade t = record { variables = t.names.items; legs = t.legs.items; events = spelled_trade t }

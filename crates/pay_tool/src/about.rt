@@ -1,9 +1,10 @@
 //! The commands `check` and `events`, which answer about a script alone.
 
-ghost use Rattle.std.specs.Prelude.{◌≡◌, ◌+◌, ◌≤◌, ◌++◌, Some, IfOk, OnOk, IsErrOf, length, map};
+ghost use Rattle.std.specs.Prelude.{◌≡◌, ◌+◌, ◌≤◌, ◌++◌, [], Some, IfOk, OnOk, IsErrOf, length};
 ghost use Rattle.std.specs.List.{flat_map};
 ghost use Rattle.pay_edge.specs.Edge.{AppendsFront, OnlyRead, Rose, appended};
-ghost use Rattle.pay_tree.specs.Views.{event};
+ghost use Rattle.pay_tree.specs.Owned.{spelled_event};
+ghost use Rattle.pay_tree.specs.OwnedViews.{event_tree};
 ghost use Rattle.pay_tool.specs.Causes.{Caused, ends_of, IsEarly, SameBeyond, names_fetched};
 ghost use Rattle.pay_tool.specs.Fetches.{most_fetches};
 ghost use Rattle.pay_tool.specs.Requests as asked;
@@ -15,10 +16,10 @@ use crate::file_name::FileName;
 use crate::input::read_script;
 use crate::put::{PutStop, put_piece};
 use crate::text::{write_count, write_date, write_text};
-use crate::trade::Trade;
 use pay_edge::{Depot, Sink};
 use pay_fixed::NoMemory;
-use pay_tree::NamedEvent;
+use pay_passes::Trade;
+use pay_tree::Event;
 use std::alloc::Global;
 
 /// Puts how many events, variables and legs the script file `script` has: it is fetched and checked, and then the text is put.
@@ -91,7 +92,7 @@ fn counts_text(alloc: Global, found: &Trade) -> Result<Vec<u8>, NoMemory>
 {
     let mut text = Vec::new(alloc);
     write_count_line(alloc, b"events", found.events.len(), &mut text)?;
-    write_count_line(alloc, b"variables", found.variables.len(), &mut text)?;
+    write_count_line(alloc, b"variables", found.names.len(), &mut text)?;
     write_count_line(alloc, b"legs", found.legs.len(), &mut text)?;
     Ok(text)
 }
@@ -113,7 +114,7 @@ fn write_count_line(
 }
 
 /// The events in order of date, a line each, below a line that names the columns.
-#[tactic(auto, using(std::proofs::Common::append_assoc))]
+#[tactic(auto, using(std::proofs::Common::append_assoc, crate::proofs::OwnTermLemmas::lines_unnamed))]
 fn events_text(alloc: Global, found: &Trade) -> Result<Vec<u8>, NoMemory>
     ensures { IfOk result (λ text. text.items ≡ meant.events_text (trade found.now)) }
 {
@@ -122,10 +123,10 @@ fn events_text(alloc: Global, found: &Trade) -> Result<Vec<u8>, NoMemory>
     Ok(text)
 }
 
-/// Appends the lines of events.
+/// Appends the lines of events, which say nothing of names.
 #[tactic(auto, using(std::proofs::Common::append_assoc))]
-fn write_events(alloc: Global, events: &[NamedEvent], text: &mut Vec<u8>) -> Result<(), NoMemory>
-    ensures { OnOk result (text.new.items ≡ text.old.items ++ flat_map meant.event_line (map event events.now)) }
+fn write_events(alloc: Global, events: &[Event], text: &mut Vec<u8>) -> Result<(), NoMemory>
+    ensures { OnOk result (text.new.items ≡ text.old.items ++ flat_map (λ event. meant.event_line (spelled_event [] [] (event_tree event))) events.now) }
 {
     for one in events {
         write_event(alloc, one, text)?;
@@ -133,10 +134,10 @@ fn write_events(alloc: Global, events: &[NamedEvent], text: &mut Vec<u8>) -> Res
     Ok(())
 }
 
-/// Appends the line of an event.
+/// Appends the line of an event, which says nothing of names.
 #[tactic(auto, using(std::proofs::Common::append_assoc))]
-fn write_event(alloc: Global, one: &NamedEvent, text: &mut Vec<u8>) -> Result<(), NoMemory>
-    ensures { OnOk result (text.new.items ≡ text.old.items ++ meant.event_line (event one.now)) }
+fn write_event(alloc: Global, one: &Event, text: &mut Vec<u8>) -> Result<(), NoMemory>
+    ensures { OnOk result (text.new.items ≡ text.old.items ++ meant.event_line (spelled_event [] [] (event_tree one.now))) }
 {
     write_date(one.date, text)?;
     write_text(b",", text)?;

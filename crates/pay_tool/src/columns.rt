@@ -14,7 +14,6 @@ use crate::past::PastFixings;
 use pay_dates::Day;
 use pay_fixed::{Fixed, NoMemory};
 use pay_tables::PastRow;
-use pay_tree::NamedEvent;
 use std::alloc::Global;
 use std::collections::BTreeMap;
 
@@ -104,28 +103,28 @@ fn source_by(
     }
 }
 
-/// Where the fixing of each event stands, with these past fixings, if there are any, and these dates of columns.
+/// Where the fixing at each of these dates of events stands, with these past fixings, if there are any, and these dates of columns.
 ///
 /// The time is that of one look-up in a map for each past fixing, each date and each event.
 ///
 /// # Errors
 ///
 /// [`NoMemory`] where there was no memory for the maps or for the answer.
-pub fn sources_of_events(
+pub fn sources_of_dates(
     alloc: Global,
-    events: &[NamedEvent],
+    own: &[Day],
     past: Option<&PastFixings>,
     dates: &[Day],
 ) -> Result<Vec<FixingSource>, NoMemory>
-    ensures { IfOk result (λ sources. sources.items ≡ map (λ event. source_of (lent_past past.entry) dates.now event.date) events.now) }
+    ensures { IfOk result (λ sources. sources.items ≡ map (λ date. source_of (lent_past past.entry) dates.now date) own.now) }
 {
     let fixings = fixings_of(alloc, past_rows(past))?;
     let places = places_of(alloc, dates)?;
     let mut sources = Vec::new(alloc);
-    for event in events {
-        let fixing = at_date(&fixings, event.date);
-        let column = at_date(&places, event.date);
-        sources.push(source_by(past, event.date, fixing, column))?;
+    for date in own {
+        let fixing = at_date(&fixings, *date);
+        let column = at_date(&places, *date);
+        sources.push(source_by(past, *date, fixing, column))?;
     }
     Ok(sources)
 }

@@ -3,17 +3,21 @@
 ghost use Rattle.std.specs.Prelude.{◌≡◌, ◌+◌, ◌≤◌, IfOk, IfErr, IfSome};
 ghost use Rattle.pay_edge.specs.Edge.{OnlyRead, SameBut};
 ghost use Rattle.pay_meaning.specs.Meaning.{Cells};
+ghost use Rattle.pay_passes.specs.Trades as trades;
 ghost use Rattle.pay_tables.specs.FixingsFile.{IsInOrder};
 ghost use Rattle.pay_tables.specs.Tables.{IsGood};
 ghost use Rattle.pay_tables.specs.Views.{past, table};
-ghost use Rattle.pay_tool.specs.Answers.{script_of, script_limit, past_of, fixings_limit, table_of, table_limit, good};
+ghost use Rattle.pay_tool.specs.Answers.{answer_to, report, script_of, script_limit, past_of, fixings_limit, table_of, table_limit, good};
 ghost use Rattle.pay_tool.specs.InputStops.{StopsAt, stop_of_file};
+ghost use Rattle.pay_tool.specs.OwnTerms.{input_at_terms};
+ghost use Rattle.pay_tool.specs.Requests.{check_of, list_of};
+ghost use Rattle.pay_tool.specs.Trades.{check_text, events_text};
 ghost use Rattle.pay_tool.specs.TradeViews.{trade};
 
 use crate::refusal::Refusal;
 use crate::script::{CheckStop, check_script};
-use crate::trade::Trade;
 use pay_edge::{Depot, WholeFault, read_whole};
+use pay_passes::Trade;
 use pay_tables::{Past, Scenarios, TableRefusal, read_fixings, read_scenarios};
 use std::alloc::Global;
 
@@ -95,11 +99,15 @@ impl From<TableRefusal> for InputStop {
 ///
 /// `Refused` with the reason, `Unread` where a fetch failed or the depot tells its files and this one is not there,
 /// `NoMemory` where there was no memory.
+#[tactic(auto, using(crate::proofs::OwnTermLemmas::check_answer, crate::proofs::OwnTermLemmas::events_answer))]
 pub fn read_script<D: Depot>(alloc: Global, depot: &mut D, name: &str) -> Result<Trade, InputStop>
     ensures reads { OnlyRead D.files D.read_faults D.write_faults depot.old depot.new }
     ensures other_names { SameBut name.now (D.read_faults depot.old) (D.read_faults depot.new) }
     ensures fetches { D.fetches depot.new ≤ D.fetches depot.old + (script_limit + 1) }
-    ensures accepted { IfOk result (λ found. IfSome (D.files depot.old) (λ files. script_of files name.now ≡ good (trade found))) }
+    ensures accepted { IfOk result (λ found. IfSome (D.files depot.old) (λ files. input_at_terms (script_of files name.now) ≡ good (trade found))) }
+    ensures good { IfOk result trades.IsGood }
+    ensures counted { IfOk result (λ found. IfSome (D.files depot.old) (λ files. answer_to (check_of name.now) files ≡ report (check_text (trade found)))) }
+    ensures listed { IfOk result (λ found. IfSome (D.files depot.old) (λ files. answer_to (list_of name.now) files ≡ report (events_text (trade found)))) }
     ensures stopped { IfErr result (StopsAt (D.files depot.old) (λ files. script_of files name.now)
         (D.read_faults depot.old name.now) (D.read_faults depot.new name.now)) }
 {

@@ -4,17 +4,19 @@ ghost use Rattle.std.specs.Prelude.{◌≡◌, ◌≤◌, OnOk, IfErr, IsErrOf, 
 ghost use Rattle.std.specs.List.{flat_map};
 ghost use Rattle.pay_edge.specs.Edge.{Rose, appended, AppendsFront};
 ghost use Rattle.pay_report.specs.Detail.{header_line, last_line, report_text};
+ghost use Rattle.pay_passes.specs.Trades as trades;
 ghost use Rattle.pay_tables.specs.Tables.{IsGood};
 ghost use Rattle.pay_tables.specs.Views.{row, table};
+ghost use Rattle.pay_tool.specs.Aligned.{AreFor, RunsMean};
 ghost use Rattle.pay_tool.specs.PastViews.{lent_past};
 ghost use Rattle.pay_tool.specs.RowLines.{lines_of};
 ghost use Rattle.pay_tool.specs.TradeViews.{trade};
 
-use crate::aligned::AlignedEvents;
+use crate::aligned::{AlignedProgram, Runs};
 use crate::past::PastFixings;
-use crate::trade::Trade;
 use pay_edge::Sink;
 use pay_fixed::NoMemory;
+use pay_passes::Trade;
 use pay_report::{DetailWriter, detail_header, last_line};
 use pay_tables::{ScenarioRow, Scenarios};
 use std::alloc::Global;
@@ -52,13 +54,14 @@ pub fn put_report<O: Sink>(
     scenarios: &Scenarios,
     out: &mut O,
 ) -> Result<(), PutStop>
+    requires good_trade { trades.IsGood found.now }
     requires good { IsGood (table scenarios.now) }
     ensures ok { OnOk result (O.text out.new ≡ appended (O.text out.old) (report_text (trade found.now).events (lent_past past.entry) (table scenarios.now))) }
     ensures front { AppendsFront (O.text out.old) (O.text out.new) (report_text (trade found.now).events (lent_past past.entry) (table scenarios.now)) }
     ensures failed { IsErrOf result PutStop.Failed → Rose (O.faults out.old) (O.faults out.new) }
     ensures never_falls { O.faults out.old ≤ O.faults out.new }
 {
-    let aligned = AlignedEvents::new(alloc, found, past, scenarios.dates.as_slice())?;
+    let aligned = AlignedProgram::new(alloc, found, past, scenarios.dates.as_slice())?;
     put_header(alloc, out)?;
     put_rows(alloc, &aligned, scenarios.rows.as_slice(), out)?;
     put_last_line(alloc, out)
@@ -104,20 +107,23 @@ fn put_last_line<O: Sink>(alloc: Global, out: &mut O) -> Result<(), PutStop>
 
 /// Puts the lines of one scenario, if it has any.
 fn put_row<O: Sink>(
-    alloc: Global,
-    events: &AlignedEvents<'_>,
+    aligned: &AlignedProgram<'_>,
     scenario: &ScenarioRow,
+    runs: &mut Runs,
     detail: &mut DetailWriter,
     out: &mut O,
 ) -> Result<(), PutStop>
-    requires full { length scenario.now.cells.items ≡ length events.now.dates.now }
-    ensures ok { OnOk result (O.text out.new ≡ appended (O.text out.old) (lines_of events.now (row scenario.now))) }
-    ensures front { AppendsFront (O.text out.old) (O.text out.new) (lines_of events.now (row scenario.now)) }
+    requires full { length scenario.now.cells.items ≡ length aligned.now.dates.now }
+    requires means { RunsMean aligned.now.trade.now aligned.now.program }
+    requires prepared { AreFor runs.old aligned.now.program }
+    ensures prepared { AreFor runs.new aligned.now.program }
+    ensures ok { OnOk result (O.text out.new ≡ appended (O.text out.old) (lines_of aligned.now (row scenario.now))) }
+    ensures front { AppendsFront (O.text out.old) (O.text out.new) (lines_of aligned.now (row scenario.now)) }
     ensures failed { IsErrOf result PutStop.Failed → Rose (O.faults out.old) (O.faults out.new) }
     ensures never_falls { O.faults out.old ≤ O.faults out.new }
 {
-    let outcome = events.run(alloc, scenario.cells.as_slice())?;
-    let lines = detail.rows(&scenario.label, &outcome, events.legs())?;
+    aligned.run(scenario.cells.as_slice(), runs)?;
+    let lines = detail.rows(&scenario.label, &runs.outcome, aligned.legs())?;
     if lines.is_empty() {
         return Ok(());
     }
@@ -127,19 +133,21 @@ fn put_row<O: Sink>(
 /// Puts the lines of scenarios in their order.
 fn put_rows<O: Sink>(
     alloc: Global,
-    events: &AlignedEvents<'_>,
+    aligned: &AlignedProgram<'_>,
     rows: &[ScenarioRow],
     out: &mut O,
 ) -> Result<(), PutStop>
-    requires full { All (λ scenario. length scenario.cells ≡ length events.now.dates.now) (map row rows.now) }
-    ensures ok { OnOk result (O.text out.new ≡ appended (O.text out.old) (flat_map (lines_of events.now) (map row rows.now))) }
-    ensures front { AppendsFront (O.text out.old) (O.text out.new) (flat_map (lines_of events.now) (map row rows.now)) }
+    requires means { RunsMean aligned.now.trade.now aligned.now.program }
+    requires full { All (λ scenario. length scenario.cells ≡ length aligned.now.dates.now) (map row rows.now) }
+    ensures ok { OnOk result (O.text out.new ≡ appended (O.text out.old) (flat_map (lines_of aligned.now) (map row rows.now))) }
+    ensures front { AppendsFront (O.text out.old) (O.text out.new) (flat_map (lines_of aligned.now) (map row rows.now)) }
     ensures failed { IsErrOf result PutStop.Failed → Rose (O.faults out.old) (O.faults out.new) }
     ensures never_falls { O.faults out.old ≤ O.faults out.new }
 {
+    let mut runs = aligned.runs(alloc)?;
     let mut detail = DetailWriter::new(alloc);
     for scenario in rows {
-        put_row(alloc, events, scenario, &mut detail, out)?;
+        put_row(aligned, scenario, &mut runs, &mut detail, out)?;
     }
     Ok(())
 }

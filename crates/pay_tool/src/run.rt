@@ -3,6 +3,7 @@
 ghost use Rattle.std.specs.Prelude.{◌≡◌, ◌+◌, ◌≤◌, Some, IfOk, IfErr, IfSome};
 ghost use Rattle.std.specs.Option.{option_map};
 ghost use Rattle.pay_edge.specs.Edge.{OnlyRead};
+ghost use Rattle.pay_passes.specs.Trades as trades;
 ghost use Rattle.pay_report.specs.Detail.{report_text};
 ghost use Rattle.pay_tables.specs.Tables.{IsGood};
 ghost use Rattle.pay_tables.specs.Views.{table};
@@ -20,8 +21,8 @@ use crate::input::{read_past, read_script, read_table};
 use crate::past::PastFixings;
 use crate::put::put_report;
 use crate::request::{PastWords, RunWords};
-use crate::trade::Trade;
 use pay_edge::{Depot, Sink};
+use pay_passes::Trade;
 use pay_tables::Scenarios;
 use std::alloc::Global;
 
@@ -70,6 +71,7 @@ fn read_inputs<D: Depot>(alloc: Global, words: RunWords, depot: &mut D) -> Resul
         (seen_of D.files D.read_faults D.fetches depot.new) }
     ensures accepted { IfOk result (λ inputs. IfSome (D.files depot.old) (λ files.
         answer_to (asked.run (run_words words)) files ≡ report (report_text (trade inputs.found).events (known_past inputs.past) (table inputs.table)))) }
+    ensures good_trade { IfOk result (λ inputs. trades.IsGood inputs.found) }
     ensures good { IfOk result (λ inputs. IsGood (table inputs.table)) }
     ensures stopped { IfErr result (IsCausedEarly (asked.run (run_words words)) (seen_of D.files D.read_faults D.fetches depot.old)
         (seen_of D.files D.read_faults D.fetches depot.new)) }

@@ -1,19 +1,21 @@
 //! A script's text, checked whole: its tokens, its grammar, its limits and the dates of its events.
 
-ghost use Rattle.std.specs.Prelude.{◌≡◌, ◌≤◌, ◌^◌, IfOk, IfErr, length};
+ghost use Rattle.std.specs.Prelude.{◌≡◌, ◌<◌, ◌≤◌, ◌^◌, IfOk, IfErr, length};
 ghost use Rattle.pay_lexer.specs.declared.fault.LexFault.{LexFault};
 ghost use Rattle.pay_parser.specs.Parsing.{parsed};
-ghost use Rattle.pay_tool.specs.Answers.{checked_script, parsed_input, good};
+ghost use Rattle.pay_passes.specs.Trades.{IsGood};
+ghost use Rattle.pay_tree.specs.Views as view;
+ghost use Rattle.pay_tool.specs.Answers.{checked_script, parsed_input, prepared, good};
+ghost use Rattle.pay_tool.specs.OwnTerms.{input_at_terms};
 ghost use Rattle.pay_tool.specs.Stops.{Stops, StopsScript};
 ghost use Rattle.pay_tool.specs.TradeViews.{trade};
 
-use crate::prepare::prepare;
 use crate::refusal::Refusal;
-use crate::trade::Trade;
-use pay_fixed::NoMemory;
+use pay_compile::{CompileRefusal, prepare};
 use pay_lexer::{LexFault, Token, lex};
 use pay_parser::{ParseFault, parse};
-use pay_roll::RollRefusal;
+use pay_passes::Trade;
+use pay_tree::Script;
 use std::alloc::Global;
 
 /// Why a text gave no value: it is refused, or there was no memory.
@@ -55,33 +57,24 @@ impl From<ParseFault> for CheckStop {
     }
 }
 
-impl From<RollRefusal> for CheckStop {
+impl From<CompileRefusal> for CheckStop {
     ghost use Rattle.std.specs.Prelude.{◌≡◌};
-    ghost use Rattle.pay_tool.specs.Stops.{stop_of_rolling};
+    ghost use Rattle.pay_tool.specs.Stops.{stop_of_compiling};
 
-    ghost from_gives = { λ refusal stop. stop ≡ stop_of_rolling refusal };
+    ghost from_gives = { λ refusal stop. stop ≡ stop_of_compiling refusal };
 
-    fn from(refusal: RollRefusal) -> CheckStop {
+    fn from(refusal: CompileRefusal) -> CheckStop {
         match refusal {
-            RollRefusal::BadSchedule { item } => CheckStop::Refused(Refusal::BadSchedule { item }),
-            RollRefusal::SameDate { date } => CheckStop::Refused(Refusal::SameDate { date }),
-            RollRefusal::TooMany { what, limit } => CheckStop::Refused(Refusal::TooMany {
+            CompileRefusal::BadSchedule { item } => CheckStop::Refused(Refusal::BadSchedule {
+                item,
+            }),
+            CompileRefusal::SameDate { date } => CheckStop::Refused(Refusal::SameDate { date }),
+            CompileRefusal::TooMany { what, limit } => CheckStop::Refused(Refusal::TooMany {
                 what,
                 limit,
             }),
-            RollRefusal::NoMemory => CheckStop::NoMemory,
+            CompileRefusal::NoMemory => CheckStop::NoMemory,
         }
-    }
-}
-
-impl From<NoMemory> for CheckStop {
-    ghost use Rattle.std.specs.Prelude.{◌≡◌};
-    ghost use Rattle.pay_tool.specs.declared.script.CheckStop.{CheckStop};
-
-    ghost from_gives = { λ _ stop. stop ≡ CheckStop.NoMemory };
-
-    fn from(_: NoMemory) -> CheckStop {
-        CheckStop::NoMemory
     }
 }
 
@@ -98,7 +91,8 @@ impl From<NoMemory> for CheckStop {
 #[tactic(auto, unfolding(crate::specs::Answers::checked_script))]
 pub fn check_script(alloc: Global, text: &[u8]) -> Result<Trade, CheckStop>
     requires { length text.now ≤ 2 ^ 20 }
-    ensures accepted { IfOk result (λ found. checked_script text.now ≡ good (trade found)) }
+    ensures accepted { IfOk result (λ found. input_at_terms (checked_script text.now) ≡ good (trade found)) }
+    ensures good { IfOk result IsGood }
     ensures refused { IfErr result (StopsScript text.now) }
 {
     let tokens = lex(alloc, text)?;
@@ -109,9 +103,21 @@ pub fn check_script(alloc: Global, text: &[u8]) -> Result<Trade, CheckStop>
 #[tactic(auto, using(crate::proofs::Checks::parsing_stops, crate::proofs::ItemLemmas::few_items))]
 fn check_tokens(alloc: Global, tokens: &[Token]) -> Result<Trade, CheckStop>
     requires { length tokens.now ≤ 2 ^ 20 }
-    ensures accepted { IfOk result (λ found. parsed_input (parsed tokens.now) ≡ good (trade found)) }
+    ensures accepted { IfOk result (λ found. input_at_terms (parsed_input (parsed tokens.now)) ≡ good (trade found)) }
+    ensures good { IfOk result IsGood }
     ensures refused { IfErr result (Stops (parsed_input (parsed tokens.now))) }
 {
     let tree = parse(alloc, tokens)?;
-    prepare(alloc, &tree)
+    prepare_script(alloc, &tree)
+}
+
+/// What a script has.
+fn prepare_script(alloc: Global, tree: &Script) -> Result<Trade, CheckStop>
+    requires { length tree.now.items.items < 2 ^ 32 }
+    ensures accepted { IfOk result (λ found. input_at_terms (prepared (view.script tree.now)) ≡ good (trade found)) }
+    ensures good { IfOk result IsGood }
+    ensures refused { IfErr result (Stops (prepared (view.script tree.now))) }
+{
+    let found = prepare(alloc, tree)?;
+    Ok(found)
 }

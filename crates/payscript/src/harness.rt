@@ -39,6 +39,18 @@ fn is_line(text: &[u8]) -> bool {
         && text.iter().position(|byte| *byte == b'\n') == Some(text.len() - 1)
 }
 
+// The status that a run of these words ends with. The tests ask it by this function alone, so that its clauses are told once.
+pub fn status_of(
+    alloc: Global,
+    words: &[&str],
+    depot: &mut MemoryDepot,
+    out: &mut MemorySink,
+    err: &mut MemorySink,
+) -> Result<u8, AllocError> {
+    let words = words_of(alloc, words)?;
+    Ok(run_tool(alloc, &words, depot, out, err))
+}
+
 // Runs the tool on `s.pay` and `t.csv` of a depot, and looks whether it ends with this status, has put this text to
 // `out`, and to `err` nothing with status 0 and else one line.
 pub fn ends(
@@ -49,9 +61,8 @@ pub fn ends(
     status: u8,
     text: &str,
 ) -> Result<(), Fail> {
-    let words = words_of(alloc, &["run", "s.pay", "t.csv"])?;
     let mut err = MemorySink::new(alloc, ROOM)?;
-    let answer = run_tool(alloc, &words, depot, out, &mut err);
+    let answer = status_of(alloc, &["run", "s.pay", "t.csv"], depot, out, &mut err)?;
     assert_eq!(rt; answer, status);
     assert_eq!(rt; out.text(), text.as_bytes());
     assert!(rt;
@@ -66,9 +77,8 @@ pub fn ends(
 
 // What a run of these words puts to `err`.
 pub fn line_of(alloc: Global, words: &[&str], depot: &mut MemoryDepot) -> Result<MemorySink, Fail> {
-    let words = words_of(alloc, words)?;
     let mut out = MemorySink::new(alloc, ROOM)?;
     let mut err = MemorySink::new(alloc, ROOM)?;
-    run_tool(alloc, &words, depot, &mut out, &mut err);
+    status_of(alloc, words, depot, &mut out, &mut err)?;
     Ok(err)
 }

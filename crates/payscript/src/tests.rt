@@ -1,9 +1,9 @@
 //! Runs of the whole tool over files and sinks in memory. Expected reports are worked by hand.
 
-use crate::harness::{REPORT, ROOM, SCRIPT, TABLE, depot_with, ends, line_of, words_of};
+use crate::harness::{REPORT, ROOM, SCRIPT, TABLE, depot_with, ends, line_of, status_of, words_of};
 use pay_dates::Day;
 use pay_edge::{Depot, FetchFault, MemorySink};
-use pay_tool::{Request, WordsFault, request_of_words, run_tool};
+use pay_tool::{Request, WordsFault, request_of_words};
 use std::test::Fail;
 
 // A yearly autocall on one index.
@@ -276,10 +276,12 @@ fn past_fixings_stand_up_to_the_as_of_date(rt: HostRuntime) -> Result<(), Fail> 
             "--asof",
             asof,
         ];
-        let words = words_of(alloc, &words)?;
         let mut out = MemorySink::new(alloc, ROOM)?;
         let mut err = MemorySink::new(alloc, ROOM)?;
-        assert_eq!(rt; run_tool(alloc, &words, &mut depot, &mut out, &mut err), 0);
+        assert_eq!(rt;
+            status_of(alloc, &words, &mut depot, &mut out, &mut err)?,
+            0
+        );
         assert_eq!(rt; out.text(), report.as_bytes());
     }
     Ok(())
@@ -359,9 +361,9 @@ fn other_statuses_have_their_lines(rt: HostRuntime) -> Result<(), Fail> {
     }
     let mut short = MemorySink::new(alloc, 0)?;
     let mut err = MemorySink::new(alloc, ROOM)?;
-    let words = words_of(alloc, &["run", "s.pay", "t.csv"])?;
+    let words = ["run", "s.pay", "t.csv"];
     assert_eq!(rt;
-        run_tool(alloc, &words, &mut depot, &mut short, &mut err),
+        status_of(alloc, &words, &mut depot, &mut short, &mut err)?,
         5
     );
     assert_eq!(rt; err.text(), b"payscript: write fault\n".as_slice());
@@ -384,14 +386,14 @@ fn a_run_writes_what_the_script_means(rt: HostRuntime) -> Result<(), Fail> {
 fn a_command_writes_its_answer(rt: HostRuntime) -> Result<(), Fail> {
     let alloc = rt.alloc();
     for (command, script, answer) in ANSWERS {
-        let words = words_of(alloc, &[command, "s.pay"])?;
+        let words = [command, "s.pay"];
         for (call, status, text) in [(1, 5, ""), (2, 0, answer)] {
             let mut depot = depot_with(alloc, script.as_bytes(), b"")?;
             let mut out = MemorySink::new(alloc, ROOM)?;
             out.fail_put(call)?;
             let mut err = MemorySink::new(alloc, ROOM)?;
             assert_eq!(rt;
-                run_tool(alloc, &words, &mut depot, &mut out, &mut err),
+                status_of(alloc, &words, &mut depot, &mut out, &mut err)?,
                 status
             );
             assert_eq!(rt; out.text(), text.as_bytes());
@@ -467,11 +469,10 @@ fn words_give_a_request(rt: HostRuntime) -> Result<(), Fail> {
 fn words_and_absent_files_have_their_status(rt: HostRuntime) -> Result<(), Fail> {
     let alloc = rt.alloc();
     for (words, status) in WORDS {
-        let words = words_of(alloc, words)?;
         let mut depot = depot_with(alloc, SCRIPT.as_bytes(), TABLE.as_bytes())?;
         let mut out = MemorySink::new(alloc, ROOM)?;
         let mut err = MemorySink::new(alloc, ROOM)?;
-        let answer = run_tool(alloc, &words, &mut depot, &mut out, &mut err);
+        let answer = status_of(alloc, words, &mut depot, &mut out, &mut err)?;
         assert_eq!(rt; answer, status);
         assert_eq!(rt; out.text().is_empty(), status != 0);
     }
@@ -535,7 +536,6 @@ fn past_fixings_are_fetched_between_the_script_and_the_scenarios(
     rt: HostRuntime,
 ) -> Result<(), Fail> {
     let alloc = rt.alloc();
-    let words = words_of(alloc, &PAST_WORDS)?;
     for (past, call, status) in PAST_FETCHES {
         let mut depot = depot_with(alloc, SCRIPT.as_bytes(), TABLE.as_bytes())?;
         depot.add("p.csv", past.as_bytes())?;
@@ -543,7 +543,7 @@ fn past_fixings_are_fetched_between_the_script_and_the_scenarios(
         let mut out = MemorySink::new(alloc, ROOM)?;
         let mut err = MemorySink::new(alloc, ROOM)?;
         assert_eq!(rt;
-            run_tool(alloc, &words, &mut depot, &mut out, &mut err),
+            status_of(alloc, &PAST_WORDS, &mut depot, &mut out, &mut err)?,
             status
         );
         assert_eq!(rt; out.text().is_empty(), status != 0);
@@ -591,13 +591,12 @@ const UNTOLD: [(&[&str], u32, u8); 6] = [
 fn a_failing_err_changes_no_status(rt: HostRuntime) -> Result<(), Fail> {
     let alloc = rt.alloc();
     for (words, room, status) in UNTOLD {
-        let words = words_of(alloc, words)?;
         let mut depot = depot_with(alloc, SCRIPT.as_bytes(), TABLE.as_bytes())?;
         let mut out = MemorySink::new(alloc, room)?;
         let mut err = MemorySink::new(alloc, ROOM)?;
         err.fail_put(1)?;
         assert_eq!(rt;
-            run_tool(alloc, &words, &mut depot, &mut out, &mut err),
+            status_of(alloc, words, &mut depot, &mut out, &mut err)?,
             status
         );
         assert!(rt; err.text().is_empty());

@@ -7,16 +7,16 @@ use Rattle.pay_report.specs.Detail.{header_line, last_line, row_lines}
 use Rattle.pay_tables.specs.declared.scenarios.ScenarioRow.{ScenarioRow}
 use Rattle.pay_tables.specs.declared.scenarios.Scenarios.{Scenarios}
 use Rattle.pay_tables.specs.Views.{row, table}
-use Rattle.pay_tool.specs.declared.aligned.AlignedEvents.{AlignedEvents}
-use Rattle.pay_tool.specs.declared.trade.Trade.{Trade}
+use Rattle.pay_tool.specs.declared.aligned.AlignedProgram.{AlignedProgram}
+use Rattle.pay_passes.specs.declared.trade.Trade.{Trade}
 use Rattle.pay_tool.specs.PastViews.{lent_past}
 use Rattle.pay_tool.specs.RowLines.{lines_of}
 use Rattle.pay_tool.specs.TradeViews.{trade}
 use Rattle.pay_tool.proofs.Pieces.{front_first, front_after, put_thrice}
 use Rattle.pay_tool.proofs.put.put_report.Goals as goal
 
--- the lines of scenarios by aligned events are those of the report
-report_lines : (aligned : AlignedEvents) (found : Trade) (past : Option Past) (scenarios : Scenarios) (rows : List ScenarioRow)
+-- the lines of scenarios by an aligned program are those of the report
+report_lines : (aligned : AlignedProgram) (found : Trade) (past : Option Past) (scenarios : Scenarios) (rows : List ScenarioRow)
     → aligned.trade.now ≡ found → lent_past aligned.past ≡ past → aligned.dates.now ≡ scenarios.dates.items → rows ≡ scenarios.rows.items
     → flat_map (lines_of aligned) (map row rows) ≡ flat_map (row_lines (trade found).events past (table scenarios)) (table scenarios).rows
 report_lines aligned found past scenarios rows of_trade of_past of_dates of_rows =

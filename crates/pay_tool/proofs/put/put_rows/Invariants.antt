@@ -2,13 +2,15 @@
 use Rattle.std.proofs.Common.{◌≤◌, map, drop}
 use Rattle.std.specs.List.{flat_map}
 use Rattle.pay_tables.specs.Views.{row}
+use Rattle.pay_tool.specs.Aligned.{AreFor}
 use Rattle.pay_tool.specs.Puts.{HasPut}
 use Rattle.pay_tool.specs.RowLines.{lines_of}
 use Rattle.pay_tool.proofs.put.put_rows.Given as goal
 
 abbrev pub invariant-loop-scenario : goal.invariant-loop-scenario
 invariant-loop-scenario g l = record {
-  put : HasPut (g.O.Sink.text l.fn.out) (g.O.Sink.text l.out) (flat_map (lines_of l.events) (map row (drop l.scenario-index l.rows)))
-      (flat_map (lines_of l.events) (map row l.rows));
+  prepared : AreFor l.runs l.aligned.program;
+  put : HasPut (g.O.Sink.text l.fn.out) (g.O.Sink.text l.out) (flat_map (lines_of l.aligned) (map row (drop l.scenario-index l.rows)))
+      (flat_map (lines_of l.aligned) (map row l.rows));
   never_falls : g.O.Sink.faults l.fn.out ≤ g.O.Sink.faults l.out;
 }

@@ -1,0 +1,13 @@
+-- The outcome of a run is that of what the trade's events mean under the fixings of the row.
+use Rattle.pay_passes.specs.Trades.{spelled_trade}
+use Rattle.pay_tool.specs.PastViews.{lent_past}
+use Rattle.pay_tool.proofs.RunLines.{run_outcome}
+use Rattle.pay_tool.proofs.aligned.AlignedProgram.run.Goals as goal
+
+pub returns-clause-outcome : goal.returns-clause-outcome
+returns-clause-outcome c =
+    let aligned = c.args.self.now in
+    run_outcome aligned.trade.now.names.items aligned.trade.now.legs.items (spelled_trade aligned.trade.now) aligned.program (lent_past aligned.past)
+    aligned.dates.now c.args.cells.now c.fill_row.new.row aligned.sources.items c.run.new.into aligned.aligned
+    (rw c.as_slice.ensures.value at c.in_ok-fill_row.ensures) aligned.distinct c.requires.full c.requires.means aligned.own_legs c.run.ensures.ran
+    c.run.ensures.bounded
