@@ -13,7 +13,7 @@ use std::cmp::Ordering;
 use std::test::Fail;
 
 // A year, a month and a day, and the number of the day that they name.
-const NUMBERS: [(u16, u8, u8, Option<i32>); 17] = [
+const NUMBERS: &[(u16, u8, u8, Option<i32>)] = &[
     (1899, 12, 31, None),
     (1900, 1, 1, Some(-25_567)),
     (1900, 2, 29, None),
@@ -34,7 +34,7 @@ const NUMBERS: [(u16, u8, u8, Option<i32>); 17] = [
 ];
 
 // A text, and the number of the day that it writes.
-const TEXTS: [(&[u8; 10], Option<i32>); 9] = [
+const TEXTS: &[(&[u8; 10], Option<i32>)] = &[
     (b"2024-06-28", Some(19_902)),
     (b"1970-01-01", Some(0)),
     (b"2024-6-28x", None),
@@ -47,14 +47,14 @@ const TEXTS: [(&[u8; 10], Option<i32>); 9] = [
 ];
 
 // A first and a last day, a step and a rule, and the rolls: the date of each, its period and its days.
-const SCHEDULES: [(
+const SCHEDULES: &[(
     &[u8; 10],
     &[u8; 10],
     u64,
     Unit,
     Rule,
     &[(&[u8; 10], u32, u32)],
-); 11] = [
+)] = &[
     // A sum past the end of February is its last day, and the next one is counted from 31 January all the same. 31 March is a Sunday.
     (
         b"2024-01-31",
@@ -176,7 +176,7 @@ const SCHEDULES: [(
 ];
 
 // A first and a last day and a step in days, and how many rolls there are without a rule, or why there are none.
-const COUNTS: [(&[u8; 10], &[u8; 10], u64, Result<usize, RollFault>); 8] = [
+const COUNTS: &[(&[u8; 10], &[u8; 10], u64, Result<usize, RollFault>)] = &[
     (b"2024-01-01", b"2024-01-01", 1, Err(RollFault::BadSchedule)),
     (b"2024-01-02", b"2024-01-01", 1, Err(RollFault::BadSchedule)),
     (b"2024-01-01", b"2024-01-15", 0, Err(RollFault::BadSchedule)),
@@ -194,7 +194,7 @@ const COUNTS: [(&[u8; 10], &[u8; 10], u64, Result<usize, RollFault>); 8] = [
 
 #[test]
 fn numbers_of_days(rt: HostRuntime) -> Result<(), Fail> {
-    for (year, month, day, number) in NUMBERS {
+    for &(year, month, day, number) in NUMBERS {
         assert_eq!(rt; Day::new(year, month, day).map(|d| d.number()), number);
     }
     Ok(())
@@ -202,7 +202,7 @@ fn numbers_of_days(rt: HostRuntime) -> Result<(), Fail> {
 
 #[test]
 fn texts_are_read(rt: HostRuntime) -> Result<(), Fail> {
-    for (text, number) in TEXTS {
+    for &(text, number) in TEXTS {
         assert_eq!(rt; read_day(text).map(|d| d.number()), number);
     }
     Ok(())
@@ -238,7 +238,7 @@ fn days_are_compared(rt: HostRuntime) -> Result<(), Fail> {
 
 #[test]
 fn schedules_are_rolled(rt: HostRuntime) -> Result<(), Fail> {
-    for (first, last, every, unit, rule, expected) in SCHEDULES {
+    for &(first, last, every, unit, rule, expected) in SCHEDULES {
         let first = read_day(first).ok_or("no such day")?;
         let last = read_day(last).ok_or("no such day")?;
         let rolls = roll_dates(rt.alloc(), first, last, every, unit, rule)?;
@@ -260,7 +260,7 @@ fn schedules_are_rolled(rt: HostRuntime) -> Result<(), Fail> {
 
 #[test]
 fn rolls_are_counted(rt: HostRuntime) -> Result<(), Fail> {
-    for (first, last, every, count) in COUNTS {
+    for &(first, last, every, count) in COUNTS {
         let first = read_day(first).ok_or("no such day")?;
         let last = read_day(last).ok_or("no such day")?;
         let rolls = roll_dates(rt.alloc(), first, last, every, Unit::Days, Rule::Stay);

@@ -7,7 +7,7 @@ use std::cmp::Ordering;
 use std::test::Fail;
 
 // A text, and the raw that it spells or why there is none.
-const TEXTS: [(&[u8], Result<i64, NumberFault>); 26] = [
+const TEXTS: &[(&[u8], Result<i64, NumberFault>)] = &[
     (b"100.123456789012345", Ok(1_001_235)),
     (b"12.5", Ok(125_000)),
     (b"0", Ok(0)),
@@ -41,7 +41,7 @@ const TEXTS: [(&[u8], Result<i64, NumberFault>); 26] = [
 ];
 
 // A raw, and the text that is written for it.
-const RAWS: [(i64, &[u8]); 6] = [
+const RAWS: &[(i64, &[u8])] = &[
     (125_000, b"12.5"),
     (0, b"0"),
     (-1, b"-0.0001"),
@@ -51,7 +51,7 @@ const RAWS: [(i64, &[u8]); 6] = [
 ];
 
 // Two raws, and the raw of their product or why there is none.
-const PRODUCTS: [(i64, i64, Result<i64, Arith>); 18] = [
+const PRODUCTS: &[(i64, i64, Result<i64, Arith>)] = &[
     (20_000, 30_000, Ok(60_000)),
     (12_500, -20_000, Ok(-25_000)),
     (-1_000_000_000_000_000_000, 0, Ok(0)),
@@ -89,7 +89,7 @@ const PRODUCTS: [(i64, i64, Result<i64, Arith>); 18] = [
 ];
 
 // A dividend and a divisor, and the raw of their quotient or why there is none.
-const QUOTIENTS: [(i64, i64, Result<i64, Arith>); 19] = [
+const QUOTIENTS: &[(i64, i64, Result<i64, Arith>)] = &[
     (10_000, 30_000, Ok(3_333)),
     (20_000, 30_000, Ok(6_667)),
     (-20_000, 30_000, Ok(-6_667)),
@@ -123,7 +123,7 @@ const QUOTIENTS: [(i64, i64, Result<i64, Arith>); 19] = [
 ];
 
 // Two raws, the smaller and the greater of them, and the magnitude and the negative of the first.
-const PAIRS: [(i64, i64, i64, i64, i64, i64); 6] = [
+const PAIRS: &[(i64, i64, i64, i64, i64, i64)] = &[
     (1, 2, 1, 2, 1, -1),
     (2, 1, 1, 2, 2, -2),
     (-2, -1, -2, -1, 2, 2),
@@ -141,7 +141,7 @@ const PAIRS: [(i64, i64, i64, i64, i64, i64); 6] = [
 
 #[test]
 fn texts_are_read(rt: HostRuntime) -> Result<(), Fail> {
-    for (text, wanted) in TEXTS {
+    for &(text, wanted) in TEXTS {
         assert_eq!(rt; read_decimal(text).map(Fixed::raw), wanted);
     }
     Ok(())
@@ -149,7 +149,7 @@ fn texts_are_read(rt: HostRuntime) -> Result<(), Fail> {
 
 #[test]
 fn raws_are_written(rt: HostRuntime) -> Result<(), Fail> {
-    for (raw, wanted) in RAWS {
+    for &(raw, wanted) in RAWS {
         let number = Fixed::from_raw(raw).ok_or("within the limit")?;
         let mut text = Vec::new(rt.alloc());
         number.write_decimal(&mut text)?;
@@ -177,7 +177,7 @@ fn sums_at_the_limit(rt: HostRuntime) -> Result<(), Fail> {
 
 #[test]
 fn products_are_rounded(rt: HostRuntime) -> Result<(), Fail> {
-    for (first, second, wanted) in PRODUCTS {
+    for &(first, second, wanted) in PRODUCTS {
         let first = Fixed::from_raw(first).ok_or("within the limit")?;
         let second = Fixed::from_raw(second).ok_or("within the limit")?;
         assert_eq!(rt; first.mul(second).map(Fixed::raw), wanted);
@@ -187,7 +187,7 @@ fn products_are_rounded(rt: HostRuntime) -> Result<(), Fail> {
 
 #[test]
 fn quotients_are_rounded(rt: HostRuntime) -> Result<(), Fail> {
-    for (dividend, divisor, wanted) in QUOTIENTS {
+    for &(dividend, divisor, wanted) in QUOTIENTS {
         let dividend = Fixed::from_raw(dividend).ok_or("within the limit")?;
         let divisor = Fixed::from_raw(divisor).ok_or("within the limit")?;
         assert_eq!(rt; dividend.div(divisor).map(Fixed::raw), wanted);
@@ -197,7 +197,7 @@ fn quotients_are_rounded(rt: HostRuntime) -> Result<(), Fail> {
 
 #[test]
 fn the_smaller_the_greater_and_signs(rt: HostRuntime) -> Result<(), Fail> {
-    for (first, second, smaller, greater, magnitude, negative) in PAIRS {
+    for &(first, second, smaller, greater, magnitude, negative) in PAIRS {
         let first = Fixed::from_raw(first).ok_or("within the limit")?;
         let second = Fixed::from_raw(second).ok_or("within the limit")?;
         assert_eq!(rt; first.min(second).raw(), smaller);
@@ -244,7 +244,7 @@ const LEFT_OPEN: Smooth = Smooth::Peak {
 const RISE: Smooth = Smooth::Rise { low: -3, high: 3 };
 
 // Smoothings, gaps and weights. The last rise is as wide as there is one.
-const WEIGHTS: [(Smooth, i64, u32); 14] = [
+const WEIGHTS: &[(Smooth, i64, u32)] = &[
     (RISE, -3, 0),
     (RISE, -2, 166_667),
     (RISE, 0, 500_000),
@@ -277,14 +277,14 @@ const WEIGHTS: [(Smooth, i64, u32); 14] = [
 
 #[test]
 fn comparisons_have_weights(rt: HostRuntime) -> Result<(), Fail> {
-    for (smooth, gap, wanted) in WEIGHTS {
+    for &(smooth, gap, wanted) in WEIGHTS {
         assert_eq!(rt; weight(smooth, gap), wanted);
     }
     Ok(())
 }
 
 // A weight, the numbers of the true and of the false branch, and their blend.
-const BLENDS: [(u32, i64, i64, i64); 6] = [
+const BLENDS: &[(u32, i64, i64, i64)] = &[
     (500_000, 3, 0, 2),
     (500_000, -3, 0, -2),
     (250_000, 100, -100, -50),
@@ -299,7 +299,7 @@ const BLENDS: [(u32, i64, i64, i64); 6] = [
 ];
 
 // A weight, an amount, and what it is scaled to.
-const SCALED: [(u32, i64, i64); 4] = [
+const SCALED: &[(u32, i64, i64)] = &[
     (333_333, 30_000, 10_000),
     (500_000, -5, -3),
     (1, 499_999, 0),
@@ -308,12 +308,12 @@ const SCALED: [(u32, i64, i64); 4] = [
 
 #[test]
 fn numbers_are_blended_and_scaled(rt: HostRuntime) -> Result<(), Fail> {
-    for (share, yes, no, wanted) in BLENDS {
+    for &(share, yes, no, wanted) in BLENDS {
         let yes = Fixed::from_raw(yes).ok_or("within the limit")?;
         let no = Fixed::from_raw(no).ok_or("within the limit")?;
         assert_eq!(rt; blend(share, yes, no).raw(), wanted);
     }
-    for (share, amount, wanted) in SCALED {
+    for &(share, amount, wanted) in SCALED {
         let amount = Fixed::from_raw(amount).ok_or("within the limit")?;
         assert_eq!(rt; scale(share, amount).raw(), wanted);
     }

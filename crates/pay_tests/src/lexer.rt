@@ -14,7 +14,7 @@ enum Seen {
 }
 
 // Texts, and their tokens with their places.
-const TEXTS: [(&[u8], &[(Seen, u32, u32)]); 10] = [
+const TEXTS: &[(&[u8], &[(Seen, u32, u32)])] = &[
     (b"", &[]),
     (b"\xef\xbb\xbf \t\r\n", &[]),
     (
@@ -88,7 +88,7 @@ const TEXTS: [(&[u8], &[(Seen, u32, u32)]); 10] = [
 ];
 
 // Texts, and their first place where neither a blank, a comment nor a token begins.
-const BAD_TEXTS: [(&[u8], u32); 16] = [
+const BAD_TEXTS: &[(&[u8], u32)] = &[
     (b"@2024-02-30", 0),
     (b"@2024-02-2", 0),
     (b"@1899-12-31", 0),
@@ -124,7 +124,7 @@ fn is_seen(token: &Token, seen: &(Seen, u32, u32)) -> bool {
 
 #[test]
 fn tokens_have_their_places(rt: HostRuntime) -> Result<(), Fail> {
-    for (text, tokens) in TEXTS {
+    for &(text, tokens) in TEXTS {
         assert!(rt; text.len() <= 1_048_576);
         let found = lex(rt.alloc(), text)?;
         assert_eq!(rt; found.len(), tokens.len());
@@ -140,7 +140,7 @@ fn tokens_have_their_places(rt: HostRuntime) -> Result<(), Fail> {
 
 #[test]
 fn the_first_bad_place_is_told(rt: HostRuntime) -> Result<(), Fail> {
-    for (text, place) in BAD_TEXTS {
+    for &(text, place) in BAD_TEXTS {
         assert!(rt; text.len() <= 1_048_576);
         match lex(rt.alloc(), text) {
             Ok(_) => assert!(rt; false),

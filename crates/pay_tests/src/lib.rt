@@ -10,12 +10,6 @@ mod fixed;
 #[cfg(test)]
 mod lexer;
 #[cfg(test)]
-mod machine;
-#[cfg(test)]
-mod report;
-#[cfg(test)]
-mod roll;
-#[cfg(test)]
 mod tables;
 #[cfg(test)]
 mod tree;

@@ -13,7 +13,7 @@ fn no_past_fixings_have_no_rows(rt: HostRuntime) -> Result<(), Fail> {
 }
 
 // Files that show which records and fields `csv` gives: how many records there are, what stands in them, and what a mark, a quote and a blank are.
-const RECORDS: [(&[u8], TableRefusal); 9] = [
+const RECORDS: &[(&[u8], TableRefusal)] = &[
     (b"", TableRefusal::BadHeader),
     (b"\xEF\xBB\xBF\r\n\n\r", TableRefusal::BadHeader),
     (
@@ -48,7 +48,7 @@ const RECORDS: [(&[u8], TableRefusal); 9] = [
 
 #[test]
 fn records_are_those_of_the_file(rt: HostRuntime) -> Result<(), Fail> {
-    for (bytes, wanted) in RECORDS {
+    for &(bytes, wanted) in RECORDS {
         assert_eq!(rt; read_scenarios(rt.alloc(), bytes).err(), Some(wanted));
     }
     Ok(())
@@ -102,7 +102,7 @@ fn past_fixings_are_read_in_order_of_date(rt: HostRuntime) -> Result<(), Fail> {
 }
 
 // Scenario files that are refused, most of them for two causes or more, and the cause that is named.
-const BAD_SCENARIOS: [(&[u8], TableRefusal); 11] = [
+const BAD_SCENARIOS: &[(&[u8], TableRefusal)] = &[
     (b"", TableRefusal::BadHeader),
     (b"scenarios,2024-06-31\n", TableRefusal::BadHeader),
     (
@@ -138,7 +138,7 @@ const BAD_SCENARIOS: [(&[u8], TableRefusal); 11] = [
 ];
 
 // The same of fixings files.
-const BAD_FIXINGS: [(&[u8], TableRefusal); 8] = [
+const BAD_FIXINGS: &[(&[u8], TableRefusal)] = &[
     (b"\r\n", TableRefusal::BadHeader),
     (b"value,date\n2024-06-31,x\n", TableRefusal::BadHeader),
     (b"date,value,\n", TableRefusal::BadHeader),
@@ -166,10 +166,10 @@ const BAD_FIXINGS: [(&[u8], TableRefusal); 8] = [
 
 #[test]
 fn the_first_cause_is_named(rt: HostRuntime) -> Result<(), Fail> {
-    for (text, refusal) in BAD_SCENARIOS {
+    for &(text, refusal) in BAD_SCENARIOS {
         assert_eq!(rt; read_scenarios(rt.alloc(), text).err(), Some(refusal));
     }
-    for (text, refusal) in BAD_FIXINGS {
+    for &(text, refusal) in BAD_FIXINGS {
         assert_eq!(rt; read_fixings(rt.alloc(), text).err(), Some(refusal));
     }
     Ok(())
