@@ -4,7 +4,7 @@ use Rattle.std.proofs.Common.{append-nil}
 use Rattle.pay_edge.specs.Edge.{Files, appended, AppendsFront}
 use Rattle.pay_tool.specs.declared.exit.Exit.{Exit}
 use Rattle.pay_tool.specs.declared.exit.Exit.TheVariants.{Done, NotRequest, Refused, Unread, Unwritten, NoMemory}
-use Rattle.pay_tool.specs.Requests.{Asked}
+use Rattle.pay_words.specs.Requests.{Asked}
 use Rattle.pay_tool.specs.Answers.{Answer, no_request, absent, refused, report, answer_to, answer_of}
 use Rattle.pay_tool.specs.Causes.{IsGiven, IsTextBegun, IsEarly, Ends, Caused}
 use Rattle.pay_tool.specs.Exits.{status_of}

@@ -2,14 +2,15 @@
 use Rattle.std.proofs.Common.{◌≡◌, ℕ, ◌+◌, ◌≤◌, IsTrue, inl, inr, List, [], ◌∷◌, ◌++◌, map, Option, Some, None, IfSome, refl, sym, ap, subst, ◌∙◌, arith}
 use Rattle.std.proofs.Common.{append_assoc, if◌then◌else◌}
 use Rattle.pay_edge.specs.Edge.{Files, Rose, OnlyRead, SameBut}
-use Rattle.pay_tool.specs.declared.input.InputStop.{InputStop}
-use Rattle.pay_tool.specs.declared.input.InputStop.TheVariants.{Refused, Unread, NoMemory}
-use Rattle.pay_tool.specs.Requests.{Asked}
-use Rattle.pay_tool.specs.Answers.{Input, Answer, answer_to, answer_by}
+use Rattle.pay_inputs.specs.declared.input.InputStop.{InputStop}
+use Rattle.pay_inputs.specs.declared.input.InputStop.TheVariants.{Refused, Unread, NoMemory}
+use Rattle.pay_words.specs.Requests.{Asked}
+use Rattle.pay_inputs.specs.Inputs.{Input}
+use Rattle.pay_tool.specs.Answers.{Answer, answer_to, answer_by}
 use Rattle.pay_tool.specs.Causes.{InputFile, inputs_of, inputs_up_to, inputs_fetched, IsNoneOf, IsNamed, RoseAt, Caused}
 use Rattle.pay_tool.specs.Exits.{exit_at}
 use Rattle.pay_tool.specs.Fetches.{fetches_of}
-use Rattle.pay_tool.specs.InputStops.{StopsAt}
+use Rattle.pay_inputs.specs.InputStops.{StopsAt}
 use Rattle.pay_tool.specs.Reading.{Seen, seen_of, HaveRead, HasRead, IsCausedEarly}
 use Rattle.pay_tool.proofs.Ended.{untouched_begun}
 

@@ -1,8 +1,4 @@
-pub mod ItemLemmas
-pub mod Rolled
 pub mod Pieces
-pub mod Checks
-pub mod TableChecks
 pub mod Paid
 pub mod Ended
 pub mod Inputs
@@ -13,4 +9,3 @@ pub mod RunInputs
 pub mod OneAnswer
 pub mod ColumnLemmas
 pub mod Payable
-pub mod OptionLemmas

@@ -7,18 +7,20 @@ use Rattle.pay_edge.specs.Edge.{Files, Long, Bytes, whole_from}
 use Rattle.pay_meaning.specs.Meaning.{Cells, Past}
 use Rattle.pay_report.specs.Detail.{report_text}
 use Rattle.pay_tables.specs.Tables.{Table}
-use Rattle.pay_tool.specs.declared.refusal.Refusal.{Refusal}
-use Rattle.pay_tool.specs.Trades.{Trade, check_text, events_text}
-use Rattle.pay_tool.specs.Requests.{Asked, PastWords, RunWords, run, check_of, list_of, request_of}
-use Rattle.pay_tool.specs.Answers.{Input, not_there, bad, good, input_of, checked_script, checked_fixings, checked_table, script_limit, fixings_limit}
-use Rattle.pay_tool.specs.Answers.{table_limit, script_of, past_of, table_of, Answer, report, answer_by, answer_by_past, answer_of}
-use Rattle.pay_tool.specs.CheckLaws.{IsScriptText, IsScriptFault, IsPastText, IsPastFault, IsTableText, IsTableFault}
+use Rattle.pay_inputs.specs.declared.refusal.Refusal.{Refusal}
+use Rattle.pay_inputs.specs.Trades.{Trade}
+use Rattle.pay_tool.specs.ScriptTexts.{check_text, events_text}
+use Rattle.pay_words.specs.Requests.{Asked, PastWords, RunWords, run, check_of, list_of, request_of}
+use Rattle.pay_inputs.specs.Inputs.{Input, not_there, bad, good, input_of, checked_script, checked_fixings, checked_table, script_limit, fixings_limit}
+use Rattle.pay_inputs.specs.Inputs.{table_limit, script_of, past_of, table_of}
+use Rattle.pay_tool.specs.Answers.{Answer, report, answer_by, answer_by_past, answer_of}
+use Rattle.pay_inputs.specs.CheckLaws.{IsScriptText, IsScriptFault, IsPastText, IsPastFault, IsTableText, IsTableFault}
 use Rattle.pay_tool.specs.ToolLaws.{IsInput, no_file, too_long, with_fault, with_value, IsScriptInput, IsPastInput, IsTableInput, GivesPast, gives_none}
 use Rattle.pay_tool.specs.ToolLaws.{gives_past, AsksAbout, about_counts, about_events, IsAnswer, without_request, script_absent, script_refused}
 use Rattle.pay_tool.specs.ToolLaws.{past_absent, past_refused, scenarios_absent, scenarios_refused, accepted, about_absent, about_refused}
 use Rattle.pay_tool.specs.ToolLaws.{about_accepted, OneAnswer}
-use Rattle.pay_tool.proofs.Checks.{script_acceptance, script_refusal, script_there}
-use Rattle.pay_tool.proofs.TableChecks.{table_acceptance, table_refusal, table_there, past_acceptance, past_refusal, past_there}
+use Rattle.pay_inputs.proofs.Checks.{script_acceptance, script_refusal, script_there}
+use Rattle.pay_inputs.proofs.TableChecks.{table_acceptance, table_refusal, table_there, past_acceptance, past_refusal, past_there}
 
 -- a check that gives a value exactly where bytes have it, and a refusal exactly where they have its fault
 record IsCheck {A : Type 0} (Gives : List ℕ → A → Type 0) (HasFault : List ℕ → Refusal → Type 0) (check : List ℕ → Input A) : Type 0 where

@@ -5,7 +5,7 @@ use Rattle.std.specs.List.{flat_map}
 use Rattle.std.proofs.lemmas.List.{length-map}
 use Rattle.std.proofs.lemmas.List.Folds.{flat_map-map}
 use Rattle.pay_meaning.specs.Language.{Event}
-use Rattle.pay_meaning.specs.Meaning.{Meaning, Past, fixings_of, meaning, no_variables}
+use Rattle.pay_meaning.specs.Meaning.{Past, fixings_of, no_variables}
 use Rattle.pay_passes.specs.Terms.{at_own_terms}
 use Rattle.pay_passes.proofs.TermLaws.{terms-keep}
 use Rattle.pay_edge.specs.Edge.{Files}
@@ -14,12 +14,13 @@ use Rattle.pay_tree.specs.OwnedViews.{event_tree}
 use Rattle.pay_tree.specs.declared.owned.Event.{Event as Event'}
 use Rattle.pay_report.specs.Detail.{header_line, last_line, report_text, row_lines, scenario_lines}
 use Rattle.pay_tables.specs.Tables.{Row, Table, cells_of}
-use Rattle.pay_tool.specs.declared.refusal.Refusal.{Refusal}
-use Rattle.pay_tool.specs.Trades.{Trade, check_text, count_line, event_line, events_text}
-use Rattle.pay_tool.specs.Answers.{Input, not_there, bad, good, Answer, report, answer_by, answer_to, script_of}
-use Rattle.pay_tool.specs.Requests.{check_of, list_of}
+use Rattle.pay_inputs.specs.Trades.{Trade}
+use Rattle.pay_tool.specs.ScriptTexts.{check_text, event_line, events_text}
+use Rattle.pay_inputs.specs.Inputs.{Input, not_there, bad, good, script_of}
+use Rattle.pay_tool.specs.Answers.{Answer, report, answer_by, answer_to}
+use Rattle.pay_words.specs.Requests.{check_of, list_of}
 use Rattle.pay_tool.specs.Causes.{is_accepted}
-use Rattle.pay_tool.specs.OwnTerms.{at_terms, input_at_terms}
+use Rattle.pay_inputs.specs.OwnTerms.{at_terms, input_at_terms}
 
 -- an input that is accepted is that of a script, and the value is what it has, with the numbers
 pub record IsOf (input : Input Trade) (value : Trade) : Type 0 where

@@ -4,10 +4,11 @@ use Rattle.pay_edge.specs.Edge.{Files}
 use Rattle.pay_meaning.specs.Meaning.{Past}
 use Rattle.pay_report.specs.Detail.{report_text}
 use Rattle.pay_tables.specs.Tables.{Table}
-use Rattle.pay_tool.specs.declared.refusal.Refusal.{Refusal}
-use Rattle.pay_tool.specs.Trades.{Trade}
-use Rattle.pay_tool.specs.Requests.{PastWords, RunWords, run, request_of}
-use Rattle.pay_tool.specs.Answers.{good, Answer, answer_of}
+use Rattle.pay_inputs.specs.declared.refusal.Refusal.{Refusal}
+use Rattle.pay_inputs.specs.Trades.{Trade}
+use Rattle.pay_words.specs.Requests.{PastWords, RunWords, run, request_of}
+use Rattle.pay_inputs.specs.Inputs.{good}
+use Rattle.pay_tool.specs.Answers.{Answer, answer_of}
 use Rattle.pay_tool.specs.Causes.{IsGiven}
 use Rattle.pay_tool.specs.Headline.{AsksRun, KnowsPast, knows_none, knows, PaysAsMeant}
 use Rattle.pay_tool.specs.ToolLaws.{IsInput, with_value, IsScriptInput, IsTableInput, GivesPast, gives_none, gives_past, AsksAbout, about_counts}

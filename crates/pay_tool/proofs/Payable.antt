@@ -2,11 +2,11 @@
 use Rattle.std.proofs.Common.{ℕ, List, Option, Some, None, IsSomeAnd, refl, subst}
 use Rattle.pay_edge.specs.Edge.{Files}
 use Rattle.pay_meaning.specs.Meaning.{Past}
-use Rattle.pay_tool.specs.Trades.{trade_of}
-use Rattle.pay_tool.specs.Requests.{PastWords, request_of}
+use Rattle.pay_inputs.specs.Trades.{trade_of}
+use Rattle.pay_words.specs.Requests.{PastWords, request_of}
 use Rattle.pay_tool.specs.Answers.{answer_of}
 use Rattle.pay_tool.specs.Causes.{IsReport}
-use Rattle.pay_tool.specs.CheckLaws.{IsScriptText}
+use Rattle.pay_inputs.specs.CheckLaws.{IsScriptText}
 use Rattle.pay_tool.specs.Headline.{KnowsPast, knows_none, knows, IsPayable}
 use Rattle.pay_tool.specs.ToolLaws.{with_value, GivesPast, gives_none, gives_past, accepted}
 use Rattle.pay_tool.proofs.OneAnswer.{one_answer}

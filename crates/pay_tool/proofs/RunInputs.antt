@@ -8,16 +8,17 @@ use Rattle.pay_meaning.specs.Meaning.{Past}
 use Rattle.pay_report.specs.Detail.{report_text}
 use Rattle.pay_tables.specs.Tables.{Table}
 use Rattle.pay_tool.specs.declared.exit.Exit.{Exit}
-use Rattle.pay_tool.specs.declared.input.InputStop.{InputStop}
-use Rattle.pay_tool.specs.Trades.{Trade}
-use Rattle.pay_tool.specs.Requests.{PastWords, RunWords, run}
-use Rattle.pay_tool.specs.Answers.{Input, good, script_of, past_of, table_of, report, answer_by, answer_by_past, answer_to}
+use Rattle.pay_inputs.specs.declared.input.InputStop.{InputStop}
+use Rattle.pay_inputs.specs.Trades.{Trade}
+use Rattle.pay_words.specs.Requests.{PastWords, RunWords, run}
+use Rattle.pay_inputs.specs.Inputs.{Input, good, script_of, past_of, table_of}
+use Rattle.pay_tool.specs.Answers.{report, answer_by, answer_by_past, answer_to}
 use Rattle.pay_tool.specs.Causes.{script_input, past_input, past_inputs, table_input}
 use Rattle.pay_tool.specs.Exits.{exit_at}
-use Rattle.pay_tool.specs.InputStops.{StopsAt}
+use Rattle.pay_inputs.specs.InputStops.{StopsAt}
 use Rattle.pay_tool.specs.Reading.{Seen, HaveRead, HasRead, ArePastAsked, StopsAtPast, IsCausedEarly}
 use Rattle.pay_tool.proofs.Inputs.{AreAccepted, read_more, request_read, stopped_at, stopped_first}
-use Rattle.pay_tool.specs.OwnTerms.{input_at_terms}
+use Rattle.pay_inputs.specs.OwnTerms.{input_at_terms}
 use Rattle.pay_tool.proofs.OwnTermLemmas.{by_terms, taken, report_at_terms}
 use Rattle.pay_tool.proofs.PastOrder.{report_same}
 

@@ -1,9 +1,9 @@
 -- A run of an aligned program gives what its events mean under the fixings of a row.
-use Rattle.std.proofs.Common.{◌≡◌, ℕ, zero, suc, ◌+◌, ◌<◌, nat_lt, nat_eq, Bool, true, false, ◌||◌, inl, inr, ℤ, List, [], ◌∷◌, length, map, get_or}
-use Rattle.std.proofs.Common.{Option, None, IsTrue, All, refl, sym, ap, ◌∙◌, subst, arith}
+use Rattle.std.proofs.Common.{◌≡◌, ℕ, zero, suc, ◌<◌, nat_lt, Bool, true, false, inl, inr, ℤ, List, [], ◌∷◌, length, map}
+use Rattle.std.proofs.Common.{Option, None, IsTrue, All, refl, ap, ◌∙◌, arith}
 use Rattle.std.specs.List.{list_all, zip}
 use Rattle.std.proofs.lemmas.List.{length-map}
-use Rattle.std.proofs.lemmas.Bool.{and_parts, cases_eq, eq-eqb, ne_eqb, ltb-true}
+use Rattle.std.proofs.lemmas.Bool.{and_parts, cases_eq, ne_eqb, ltb-true}
 use Rattle.pay_dates.specs.declared.day.Day.{Day}
 use Rattle.pay_meaning.specs.Language.{Event}
 use Rattle.pay_meaning.specs.Meaning.{Past, fixing_at, fixings_of, meaning, no_variables}

@@ -1,5 +1,5 @@
 -- The cells of a scenario for a program, and what its runs need.
-use Rattle.std.specs.Prelude.{ℕ, ℤ, List, map, Option}
+use Rattle.std.specs.Prelude.{ℤ, List, map, Option}
 use Rattle.pay_code.specs.Programs.{Compiled}
 use Rattle.pay_compile.specs.Compiling.{MeansDirectly}
 use Rattle.pay_machine.specs.Runs.{Serves, HasRoom}

@@ -2,11 +2,11 @@
 use Rattle.std.specs.Prelude.{◌≡◌, ◌≢◌, ℕ, ◌⊎◌, Bool, true, false, IsTrue, List, [], ◌∷◌, ◌++◌, map, Option, Some, None, IfSome, IsSome, IsSomeAnd}
 use Rattle.std.specs.Prelude.{if◌then◌else◌}
 use Rattle.pay_edge.specs.Edge.{Files, Rose, appended, AppendsFront}
-use Rattle.pay_tool.specs.declared.refusal.Refusal.{Refusal}
+use Rattle.pay_inputs.specs.declared.refusal.Refusal.{Refusal}
 use Rattle.pay_tool.specs.declared.exit.Exit.{Exit}
 use Rattle.pay_tool.specs.declared.exit.Exit.TheVariants.{Done, NotRequest, Refused, Unread, Unwritten, NoMemory}
-use Rattle.pay_tool.specs.Requests.{Asked, PastWords, run, check_of, list_of}
-use Rattle.pay_tool.specs.Answers.{Input, not_there, bad, good, script_of, past_of, table_of, script_limit, fixings_limit, table_limit}
+use Rattle.pay_words.specs.Requests.{Asked, PastWords, run, check_of, list_of}
+use Rattle.pay_inputs.specs.Inputs.{Input, not_there, bad, good, script_of, past_of, table_of, script_limit, fixings_limit, table_limit}
 use Rattle.pay_tool.specs.Answers.{Answer, no_request, absent, refused, report, answer_of}
 
 -- an input is there and was not refused

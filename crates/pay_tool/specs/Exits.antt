@@ -2,8 +2,8 @@
 use Rattle.std.specs.Prelude.{ℕ, List}
 use Rattle.pay_tool.specs.declared.exit.Exit.{Exit}
 use Rattle.pay_tool.specs.declared.exit.Exit.TheVariants.{Done, NotRequest, Refused, Unread, Unwritten, NoMemory}
-use Rattle.pay_tool.specs.declared.input.InputStop.{InputStop}
-use Rattle.pay_tool.specs.declared.input.InputStop.TheVariants as input
+use Rattle.pay_inputs.specs.declared.input.InputStop.{InputStop}
+use Rattle.pay_inputs.specs.declared.input.InputStop.TheVariants as input
 use Rattle.pay_tool.specs.declared.put.PutStop.{PutStop}
 use Rattle.pay_tool.specs.declared.put.PutStop.TheVariants as put
 

@@ -1,7 +1,7 @@
 -- How often a run fetches at most.
 use Rattle.std.specs.Prelude.{ℕ, ◌+◌, List, [], ◌∷◌, Option}
 use Rattle.pay_edge.specs.Edge.{Files}
-use Rattle.pay_tool.specs.Requests.{Asked}
+use Rattle.pay_words.specs.Requests.{Asked}
 use Rattle.pay_tool.specs.Causes.{InputFile, inputs_fetched}
 
 -- one fetch more than its limit for each input

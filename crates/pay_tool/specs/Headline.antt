@@ -11,13 +11,13 @@ use Rattle.pay_lexer.specs.Spelling.{SpellsTokens}
 use Rattle.pay_lexer.specs.Lexing.{kinds}
 use Rattle.pay_grammar.specs.Grammar.{SpellsScript}
 use Rattle.pay_grammar.specs.TokenLimits.{IsWithin}
-use Rattle.pay_tool.specs.Limits.{event_limit, HasGoodSchedules, KeepsLimits}
+use Rattle.pay_inputs.specs.Limits.{event_limit, HasGoodSchedules, KeepsLimits}
 use Rattle.pay_tables.specs.Records.{records_in}
 use Rattle.pay_tables.specs.Tables.{Table, cells_of}
 use Rattle.pay_tables.specs.Spelling.{SpellsTable, SpellsPast}
 use Rattle.pay_report.specs.Detail.{header_line, last_line, scenario_lines}
-use Rattle.pay_tool.specs.Requests.{Asked, PastWords, RunWords, run, check_of, list_of, request_of}
-use Rattle.pay_tool.specs.Answers.{script_limit, fixings_limit, table_limit}
+use Rattle.pay_words.specs.Requests.{Asked, PastWords, RunWords, run, check_of, list_of, request_of}
+use Rattle.pay_inputs.specs.Inputs.{script_limit, fixings_limit, table_limit}
 
 -- the words ask for a run
 abbrev pub AsksRun : Option Asked → Type 0

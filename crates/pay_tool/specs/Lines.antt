@@ -7,10 +7,10 @@ use Rattle.pay_roll.specs.declared.refusal.What.{What}
 use Rattle.pay_roll.specs.declared.refusal.What.TheVariants.{Events, Nodes, Pays, Rows, Columns, Variables, Legs}
 use Rattle.pay_tool.specs.declared.exit.Exit.{Exit}
 use Rattle.pay_tool.specs.declared.exit.Exit.TheVariants as exit
-use Rattle.pay_tool.specs.declared.refusal.Refusal.{Refusal}
-use Rattle.pay_tool.specs.declared.refusal.Refusal.TheVariants.{TooLong, BadByte, TooLarge, TooDeep, NotScript, BadSchedule, SameDate, TooMany}
-use Rattle.pay_tool.specs.declared.refusal.Refusal.TheVariants.{BadHeader, BadDate, RepeatedDate, BadRow, BadName, BadCell}
-use Rattle.pay_tool.specs.Requests.{Asked}
+use Rattle.pay_inputs.specs.declared.refusal.Refusal.{Refusal}
+use Rattle.pay_inputs.specs.declared.refusal.Refusal.TheVariants.{TooLong, BadByte, TooLarge, TooDeep, NotScript, BadSchedule, SameDate, TooMany}
+use Rattle.pay_inputs.specs.declared.refusal.Refusal.TheVariants.{BadHeader, BadDate, RepeatedDate, BadRow, BadName, BadCell}
+use Rattle.pay_words.specs.Requests.{Asked}
 use Rattle.pay_tool.specs.Answers.{answer_of}
 use Rattle.pay_tool.specs.Causes.{IsInputName, IsRefusedFor, IsUnread}
 

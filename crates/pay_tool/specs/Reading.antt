@@ -4,13 +4,13 @@ use Rattle.pay_edge.specs.Edge.{Files}
 use Rattle.pay_meaning.specs.Meaning.{Cells, Past}
 use Rattle.pay_tables.specs.FixingsFile.{IsInOrder}
 use Rattle.pay_tool.specs.declared.exit.Exit.{Exit}
-use Rattle.pay_tool.specs.declared.input.InputStop.{InputStop}
-use Rattle.pay_tool.specs.Requests.{Asked, PastWords}
-use Rattle.pay_tool.specs.Answers.{past_of, good}
+use Rattle.pay_inputs.specs.declared.input.InputStop.{InputStop}
+use Rattle.pay_words.specs.Requests.{Asked, PastWords}
+use Rattle.pay_inputs.specs.Inputs.{past_of, good}
 use Rattle.pay_tool.specs.Causes.{InputFile, IsNoneOf, SameBeyond, names_fetched, Caused}
 use Rattle.pay_tool.specs.Exits.{exit_at}
 use Rattle.pay_tool.specs.Fetches.{fetches_of, most_fetches}
-use Rattle.pay_tool.specs.InputStops.{StopsAt}
+use Rattle.pay_inputs.specs.InputStops.{StopsAt}
 
 -- what is seen of a depot: its files, the counts of read faults by name, and how often it was fetched from
 pub record Seen : Type 0 where

@@ -3,7 +3,7 @@ use Rattle.std.specs.Prelude.{ℕ, List, []}
 use Rattle.pay_passes.specs.Trades.{spelled_trade}
 use Rattle.pay_report.specs.Detail.{row_lines}
 use Rattle.pay_tables.specs.Tables.{Row}
-use Rattle.pay_tool.specs.PastViews.{lent_past}
+use Rattle.pay_inputs.specs.PastViews.{lent_past}
 use Rattle.pay_tool.specs.declared.aligned.AlignedProgram.{AlignedProgram}
 
 -- the lines of what the events of a program mean in a row of its table

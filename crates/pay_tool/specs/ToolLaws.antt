@@ -2,16 +2,17 @@
 use Rattle.std.specs.Prelude.{◌≡◌, ℕ, ◌≤◌, ◌<◌, List, length, Option, Some, None}
 use Rattle.std.specs.FinMap.{get}
 use Rattle.pay_edge.specs.Edge.{Files}
-use Rattle.pay_tool.specs.declared.refusal.Refusal.{Refusal}
-use Rattle.pay_tool.specs.declared.refusal.Refusal.TheVariants.{TooLong}
+use Rattle.pay_inputs.specs.declared.refusal.Refusal.{Refusal}
+use Rattle.pay_inputs.specs.declared.refusal.Refusal.TheVariants.{TooLong}
 use Rattle.pay_meaning.specs.Meaning.{Cells, Past}
 use Rattle.pay_tables.specs.Tables.{Table}
-use Rattle.pay_tool.specs.Trades.{Trade, check_text, events_text}
+use Rattle.pay_inputs.specs.Trades.{Trade}
+use Rattle.pay_tool.specs.ScriptTexts.{check_text, events_text}
 use Rattle.pay_report.specs.Detail.{report_text}
-use Rattle.pay_tool.specs.Requests.{PastWords, RunWords, run, check_of, list_of, request_of}
-use Rattle.pay_tool.specs.Answers.{Input, not_there, bad, good, script_limit, fixings_limit, table_limit}
+use Rattle.pay_words.specs.Requests.{PastWords, RunWords, run, check_of, list_of, request_of}
+use Rattle.pay_inputs.specs.Inputs.{Input, not_there, bad, good, script_limit, fixings_limit, table_limit}
 use Rattle.pay_tool.specs.Answers.{Answer, no_request, absent, refused, report, answer_of}
-use Rattle.pay_tool.specs.CheckLaws.{IsScriptText, IsScriptFault, IsTableText, IsTableFault, IsPastText, IsPastFault}
+use Rattle.pay_inputs.specs.CheckLaws.{IsScriptText, IsScriptFault, IsTableText, IsTableFault, IsPastText, IsPastFault}
 
 -- What a file is as an input, where these bytes give a value and those have a fault: it is not there; or it is longer than its limit; or its
 -- bytes have a fault; or they give a value.

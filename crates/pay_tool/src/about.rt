@@ -7,22 +7,23 @@ ghost use Rattle.pay_tree.specs.Owned.{spelled_event};
 ghost use Rattle.pay_tree.specs.OwnedViews.{event_tree};
 ghost use Rattle.pay_tool.specs.Causes.{Caused, ends_of, IsEarly, SameBeyond, names_fetched};
 ghost use Rattle.pay_tool.specs.Fetches.{most_fetches};
-ghost use Rattle.pay_tool.specs.Requests as asked;
-ghost use Rattle.pay_tool.specs.Trades as meant;
-ghost use Rattle.pay_tool.specs.TradeViews.{trade};
+ghost use Rattle.pay_words.specs.Requests as asked;
+ghost use Rattle.pay_tool.specs.ScriptTexts as meant;
+ghost use Rattle.pay_inputs.specs.TradeViews.{trade};
 
 use crate::exit::{Exit, exit_at};
-use crate::file_name::FileName;
-use crate::input::read_script;
 use crate::put::{PutStop, put_piece};
 use crate::text::{write_count, write_date, write_text};
 use pay_edge::{Depot, Sink};
 use pay_fixed::NoMemory;
+use pay_inputs::read_script;
 use pay_passes::Trade;
 use pay_tree::Event;
+use pay_words::FileName;
 use std::alloc::Global;
 
 /// Puts how many events, variables and legs the script file `script` has: it is fetched and checked, and then the text is put.
+#[tactic(auto, using(crate::proofs::OwnTermLemmas::check_answer))]
 pub fn check<D: Depot, O: Sink>(alloc: Global, script: FileName, depot: &mut D, out: &mut O) -> Exit
     ensures reads { OnlyRead D.files D.read_faults D.write_faults depot.old depot.new }
     ensures other_names { SameBeyond (names_fetched (Some (asked.check_of script)) (D.files depot.old)) (D.read_faults depot.old) (D.read_faults depot.new) }
@@ -42,6 +43,7 @@ pub fn check<D: Depot, O: Sink>(alloc: Global, script: FileName, depot: &mut D, 
 }
 
 /// Puts the events of the script file `script` in order of date: it is fetched and checked, and then the text is put.
+#[tactic(auto, using(crate::proofs::OwnTermLemmas::events_answer))]
 pub fn events<D: Depot, O: Sink>(
     alloc: Global,
     script: FileName,

@@ -9,14 +9,14 @@ ghost use Rattle.pay_passes.specs.Trades.{IsGood, spelled_trade};
 ghost use Rattle.pay_tables.specs.Tables.{are_distinct};
 ghost use Rattle.pay_tool.specs.Aligned.{AreFor, cells_from, RunsMean};
 ghost use Rattle.pay_tool.specs.Columns.{source_of};
-ghost use Rattle.pay_tool.specs.PastViews.{lent_past};
+ghost use Rattle.pay_inputs.specs.PastViews.{lent_past};
 
 use crate::columns::{FixingSource, sources_of_dates};
-use crate::past::PastFixings;
 use pay_code::Program;
 use pay_compile::{Mode, Start, compile};
 use pay_dates::Day;
 use pay_fixed::{Fixed, NoMemory};
+use pay_inputs::PastFixings;
 use pay_machine::{Machine, Outcome, Row};
 use pay_passes::Trade;
 use pay_tree::Name;

@@ -8,11 +8,11 @@ ghost use Rattle.pay_dates.specs.Days.{day_number};
 ghost use Rattle.pay_meaning.specs.Meaning as meant;
 ghost use Rattle.pay_tables.specs.Views as tables;
 ghost use Rattle.pay_tool.specs.Columns.{fixing_from, past_cells, place_of, source_by, source_of};
-ghost use Rattle.pay_tool.specs.PastViews.{lent_past};
+ghost use Rattle.pay_inputs.specs.PastViews.{lent_past};
 
-use crate::past::PastFixings;
 use pay_dates::Day;
 use pay_fixed::{Fixed, NoMemory};
+use pay_inputs::PastFixings;
 use pay_tables::PastRow;
 use std::alloc::Global;
 use std::collections::BTreeMap;

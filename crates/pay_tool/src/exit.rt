@@ -3,10 +3,9 @@
 ghost use Rattle.std.specs.Prelude.{◌≡◌};
 ghost use Rattle.pay_tool.specs.Exits.{exit_at, status_of};
 
-use crate::file_name::FileName;
-use crate::input::InputStop;
 use crate::put::PutStop;
-use crate::refusal::Refusal;
+use pay_inputs::{InputStop, Refusal};
+use pay_words::FileName;
 
 /// How the tool ended.
 #[derive(Drop)]

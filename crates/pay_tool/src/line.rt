@@ -3,17 +3,17 @@
 ghost use Rattle.std.specs.Prelude.{◌≡◌, ◌++◌, codes, [], IfOk, OnOk, MatchOption};
 ghost use Rattle.std.specs.Fmt.{decimal};
 ghost use Rattle.pay_edge.specs.Edge.{Rose, appended};
-ghost use Rattle.pay_tool.specs.declared.refusal.Refusal.TheVariants.{TooLong, SameDate, TooMany, BadCell};
+ghost use Rattle.pay_inputs.specs.declared.refusal.Refusal.TheVariants.{TooLong, SameDate, TooMany, BadCell};
 ghost use Rattle.pay_tool.specs.Lines as meant;
 
 use crate::exit::Exit;
-use crate::file_name::FileName;
-use crate::refusal::Refusal;
 use crate::text::{write_count, write_date, write_text};
 use pay_dates::Day;
 use pay_edge::Sink;
 use pay_fixed::NoMemory;
+use pay_inputs::Refusal;
 use pay_roll::What;
+use pay_words::FileName;
 use std::alloc::Global;
 
 /// The line where the words are no request.

@@ -8,14 +8,14 @@ ghost use Rattle.pay_passes.specs.Trades as trades;
 ghost use Rattle.pay_tables.specs.Tables.{IsGood};
 ghost use Rattle.pay_tables.specs.Views.{row, table};
 ghost use Rattle.pay_tool.specs.Aligned.{AreFor, RunsMean};
-ghost use Rattle.pay_tool.specs.PastViews.{lent_past};
+ghost use Rattle.pay_inputs.specs.PastViews.{lent_past};
 ghost use Rattle.pay_tool.specs.RowLines.{lines_of};
-ghost use Rattle.pay_tool.specs.TradeViews.{trade};
+ghost use Rattle.pay_inputs.specs.TradeViews.{trade};
 
 use crate::aligned::{AlignedProgram, Runs};
-use crate::past::PastFixings;
 use pay_edge::Sink;
 use pay_fixed::NoMemory;
+use pay_inputs::PastFixings;
 use pay_passes::Trade;
 use pay_report::{DetailWriter, detail_header, last_line};
 use pay_tables::{ScenarioRow, Scenarios};

@@ -10,20 +10,19 @@ ghost use Rattle.pay_tables.specs.Views.{table};
 ghost use Rattle.pay_tool.specs.Answers.{answer_to, report};
 ghost use Rattle.pay_tool.specs.Causes.{Caused, ends_of, IsEarly, SameBeyond, names_fetched, past_inputs};
 ghost use Rattle.pay_tool.specs.Fetches.{most_fetches};
-ghost use Rattle.pay_tool.specs.PastViews.{known_past};
+ghost use Rattle.pay_inputs.specs.PastViews.{known_past};
 ghost use Rattle.pay_tool.specs.Reading.{seen_of, HaveRead, HasRead, ArePastAsked, StopsAtPast, IsCausedEarly};
-ghost use Rattle.pay_tool.specs.Requests as asked;
-ghost use Rattle.pay_tool.specs.RequestViews.{past_words, run_words};
-ghost use Rattle.pay_tool.specs.TradeViews.{trade};
+ghost use Rattle.pay_words.specs.Requests as asked;
+ghost use Rattle.pay_words.specs.RequestViews.{past_words, run_words};
+ghost use Rattle.pay_inputs.specs.TradeViews.{trade};
 
 use crate::exit::{Exit, exit_at};
-use crate::input::{read_past, read_script, read_table};
-use crate::past::PastFixings;
 use crate::put::put_report;
-use crate::request::{PastWords, RunWords};
 use pay_edge::{Depot, Sink};
+use pay_inputs::{PastFixings, read_past, read_script, read_table};
 use pay_passes::Trade;
 use pay_tables::Scenarios;
+use pay_words::{PastWords, RunWords};
 use std::alloc::Global;
 
 /// Puts the report of a run: the script is fetched and checked, then the past fixings, if they are given, then the scenarios, and then the

@@ -8,15 +8,15 @@ ghost use Rattle.pay_tool.specs.Causes.{IsGiven, IsRefused, IsAbsentInput, IsRep
 ghost use Rattle.pay_tool.specs.Fetches.{most_fetches};
 ghost use Rattle.pay_tool.specs.Headline.{AsksRun, PaysAsMeant, IsPayable};
 ghost use Rattle.pay_tool.specs.Lines.{TellsLine, NamesInput, line_of};
-ghost use Rattle.pay_tool.specs.Requests.{asked_in};
+ghost use Rattle.pay_words.specs.Requests.{asked_in};
 
 use crate::about::{check, events};
 use crate::exit::{Exit, status_of};
 use crate::line::{MEMORY_LINE, file_line, put_line, short_line};
-use crate::request::{Request, WordsFault, request_of_words};
 use crate::run::run;
 use pay_edge::{Depot, Sink};
 use pay_fixed::NoMemory;
+use pay_words::{Request, WordsFault, request_of_words};
 use std::alloc::Global;
 
 /// Does what the words after a program's name ask for, over the files of a depot: puts an answer to `out`, and gives

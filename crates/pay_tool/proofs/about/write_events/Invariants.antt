@@ -2,7 +2,7 @@ use Rattle.std.proofs.Common.{◌≡◌, ◌++◌, [], drop}
 use Rattle.std.specs.List.{flat_map}
 use Rattle.pay_tree.specs.Owned.{spelled_event}
 use Rattle.pay_tree.specs.OwnedViews.{event_tree}
-use Rattle.pay_tool.specs.Trades.{event_line}
+use Rattle.pay_tool.specs.ScriptTexts.{event_line}
 use Rattle.pay_tool.proofs.about.write_events.Given as goal
 
 -- the lines so far and those of what is left are all lines

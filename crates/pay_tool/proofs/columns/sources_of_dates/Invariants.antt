@@ -1,6 +1,6 @@
 use Rattle.std.proofs.Common.{◌≡◌, take, map}
 use Rattle.pay_tool.specs.Columns.{source_of}
-use Rattle.pay_tool.specs.PastViews.{lent_past}
+use Rattle.pay_inputs.specs.PastViews.{lent_past}
 use Rattle.pay_tool.proofs.columns.sources_of_dates.Given as goal
 
 -- the sources so far are those of the dates so far

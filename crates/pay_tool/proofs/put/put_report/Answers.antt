@@ -9,9 +9,9 @@ use Rattle.pay_tables.specs.declared.scenarios.Scenarios.{Scenarios}
 use Rattle.pay_tables.specs.Views.{row, table}
 use Rattle.pay_tool.specs.declared.aligned.AlignedProgram.{AlignedProgram}
 use Rattle.pay_passes.specs.declared.trade.Trade.{Trade}
-use Rattle.pay_tool.specs.PastViews.{lent_past}
+use Rattle.pay_inputs.specs.PastViews.{lent_past}
 use Rattle.pay_tool.specs.RowLines.{lines_of}
-use Rattle.pay_tool.specs.TradeViews.{trade}
+use Rattle.pay_inputs.specs.TradeViews.{trade}
 use Rattle.pay_tool.proofs.Pieces.{front_first, front_after, put_thrice}
 use Rattle.pay_tool.proofs.put.put_report.Goals as goal
 

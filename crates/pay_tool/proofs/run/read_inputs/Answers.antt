@@ -3,11 +3,11 @@ use Rattle.std.proofs.Common.{[], refl}
 use Rattle.std.proofs.lemmas.Result.{err_from_is_err_and}
 use Rattle.pay_tables.specs.Views.{table}
 use Rattle.pay_tool.specs.Causes.{script_input, table_input}
-use Rattle.pay_tool.specs.PastViews.{known_past}
+use Rattle.pay_inputs.specs.PastViews.{known_past}
 use Rattle.pay_tool.specs.Reading.{seen_of}
-use Rattle.pay_tool.specs.Requests.{run}
-use Rattle.pay_tool.specs.RequestViews.{run_words}
-use Rattle.pay_tool.specs.TradeViews.{trade}
+use Rattle.pay_words.specs.Requests.{run}
+use Rattle.pay_words.specs.RequestViews.{run_words}
+use Rattle.pay_inputs.specs.TradeViews.{trade}
 use Rattle.pay_tool.proofs.Inputs.{none_accepted, one_read, request_read}
 use Rattle.pay_tool.proofs.RunInputs.{before_table, script_stops, past_read, past_stops, inputs_read, table_stops, run_answer}
 use Rattle.pay_tool.proofs.run.read_inputs.Goals as goal

@@ -2,10 +2,10 @@
 use Rattle.std.proofs.Common.{◌≡◌, Option, Some, None, refl, ap}
 use Rattle.std.specs.Borrow.{Bor}
 use Rattle.std.specs.Option.{option_copied}
-use Rattle.pay_tool.specs.declared.past.PastFixings.{PastFixings}
-use Rattle.pay_tool.specs.PastViews.{known_past, lent_past}
-use Rattle.pay_tool.specs.Requests.{run}
-use Rattle.pay_tool.specs.RequestViews.{run_words}
+use Rattle.pay_inputs.specs.declared.past.PastFixings.{PastFixings}
+use Rattle.pay_inputs.specs.PastViews.{known_past, lent_past}
+use Rattle.pay_words.specs.Requests.{run}
+use Rattle.pay_words.specs.RequestViews.{run_words}
 use Rattle.pay_tool.proofs.Ended.{report_given}
 use Rattle.pay_tool.proofs.run.run.Goals as goal
 

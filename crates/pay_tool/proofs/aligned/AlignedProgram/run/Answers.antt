@@ -1,6 +1,6 @@
 -- The outcome of a run is that of what the trade's events mean under the fixings of the row.
 use Rattle.pay_passes.specs.Trades.{spelled_trade}
-use Rattle.pay_tool.specs.PastViews.{lent_past}
+use Rattle.pay_inputs.specs.PastViews.{lent_past}
 use Rattle.pay_tool.proofs.RunLines.{run_outcome}
 use Rattle.pay_tool.proofs.aligned.AlignedProgram.run.Goals as goal
 

@@ -1,0 +1,4 @@
+pub mod ItemLemmas
+pub mod Rolled
+pub mod Checks
+pub mod TableChecks

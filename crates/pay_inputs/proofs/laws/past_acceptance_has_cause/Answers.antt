@@ -1,0 +1,5 @@
+use Rattle.pay_inputs.proofs.TableChecks as proof
+use Rattle.pay_inputs.proofs.laws.past_acceptance_has_cause.Goals as goal
+
+pub returns : goal.returns
+returns c = proof.past_acceptance

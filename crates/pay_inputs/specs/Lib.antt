@@ -1,0 +1,9 @@
+pub mod Limits
+pub mod Trades
+pub mod TradeViews
+pub mod PastViews
+pub mod Inputs
+pub mod OwnTerms
+pub mod Stops
+pub mod InputStops
+pub mod CheckLaws

@@ -1,5 +1,0 @@
-use Rattle.pay_tool.proofs.TableChecks as proof
-use Rattle.pay_tool.proofs.laws.past_refusal_has_cause.Goals as goal
-
-pub returns : goal.returns
-returns c = proof.past_refusal

@@ -1,5 +1,0 @@
-use Rattle.pay_tool.proofs.Checks as proof
-use Rattle.pay_tool.proofs.laws.script_acceptance_has_cause.Goals as goal
-
-pub returns : goal.returns
-returns c = proof.script_acceptance
