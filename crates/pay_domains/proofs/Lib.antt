@@ -1,0 +1,12 @@
+pub mod NormalLemmas
+pub mod Ends
+pub mod NormalLaws
+pub mod Corners
+pub mod OperatorLaws
+pub mod SetLaws
+pub mod QueryLaws
+pub mod Results
+pub mod Passing
+pub mod MergeLemmas
+pub mod SortLemmas
+pub mod PairLemmas
