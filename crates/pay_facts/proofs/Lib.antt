@@ -1,0 +1,12 @@
+pub mod ResultLemmas
+pub mod RangeLemmas
+pub mod ComparisonLemmas
+pub mod DecisionLemmas
+pub mod AfterLemmas
+pub mod FoldLemmas
+pub mod SlotRangeLemmas
+pub mod SlotFactLemmas
+pub mod ReachedLemmas
+pub mod VisitLemmas
+pub mod EventLemmas
+pub mod ExampleProofs

@@ -1,0 +1,14 @@
+pub mod Facts
+pub mod Ranges
+pub mod Decisions
+pub mod After
+pub mod Holding
+pub mod DecisionLaws
+pub mod FactLaws
+pub mod FoldLaws
+pub mod SlotFacts
+pub mod Reached
+pub mod Visits
+pub mod SlotLaws
+pub mod VisitLaws
+pub mod Examples
