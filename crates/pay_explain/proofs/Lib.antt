@@ -1,0 +1,4 @@
+pub mod KnownLemmas
+pub mod ExplainLemmas
+pub mod NameLaws
+pub mod TermLaws

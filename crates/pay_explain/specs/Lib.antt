@@ -1,0 +1,3 @@
+pub mod Explaining
+pub mod ExplainLaws
+pub mod Known
