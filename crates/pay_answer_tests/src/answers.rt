@@ -1,0 +1,56 @@
+//! Answers of the commands `check` and `events`, over files in memory. Each is worked by hand.
+
+use crate::reports::AUTOCALL;
+use pay_edge::MemorySink;
+use pay_harness::{ROOM, depot_with, status_of};
+use std::test::Fail;
+
+// A command, a script, and what the command writes for it.
+const ANSWERS: [(&str, &str, &str); 7] = [
+    ("check", AUTOCALL, "events 5\nvariables 2\nlegs 1\n"),
+    ("check", "", "events 0\nvariables 0\nlegs 0\n"),
+    // A name that is assigned twice, one that is only read, and one that is a variable and a leg.
+    (
+        "check",
+        "schedule from @2024-01-01 to @2024-01-03 every 1 d do a = b a = 1 a pays a c pays b c pays 1 end",
+        "events 2\nvariables 2\nlegs 2\n",
+    ),
+    (
+        "events",
+        "schedule from @2024-01-31 to @2024-05-15 every 1 m following do a pays days() end",
+        "date,period,days\n2024-02-29,1,29\n2024-04-01,2,32\n2024-04-30,3,29\n2024-05-15,4,15\n",
+    ),
+    (
+        "events",
+        "schedule from @2024-01-31 to @2024-05-15 every 1 m modified do a pays days() end",
+        "date,period,days\n2024-02-29,1,29\n2024-03-29,2,29\n2024-04-30,3,32\n2024-05-15,4,15\n",
+    ),
+    // Several items in order of date, and dates that a rule moves to one.
+    (
+        "events",
+        "schedule from @2024-06-29 to @2024-07-03 every 1 d following do end @2024-06-30 schedule from @2024-05-30 to @2024-06-29 every 2 w do end",
+        "date,period,days\n2024-06-13,1,14\n2024-06-27,2,14\n2024-06-29,3,2\n2024-06-30,0,0\n2024-07-01,1,0\n2024-07-02,3,1\n2024-07-03,4,1\n",
+    ),
+    ("events", "", "date,period,days\n"),
+];
+
+// Each of these answers is one piece.
+#[test]
+fn a_command_writes_its_answer(rt: HostRuntime) -> Result<(), Fail> {
+    let alloc = rt.alloc();
+    for (command, script, answer) in ANSWERS {
+        let words = [command, "s.pay"];
+        for (call, status, text) in [(1, 5, ""), (2, 0, answer)] {
+            let mut depot = depot_with(alloc, script.as_bytes(), b"")?;
+            let mut out = MemorySink::new(alloc, ROOM)?;
+            out.fail_put(call)?;
+            let mut err = MemorySink::new(alloc, ROOM)?;
+            assert_eq!(rt;
+                status_of(alloc, &words, &mut depot, &mut out, &mut err)?,
+                status
+            );
+            assert_eq!(rt; out.text(), text.as_bytes());
+        }
+    }
+    Ok(())
+}
