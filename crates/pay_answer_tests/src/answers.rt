@@ -1,4 +1,4 @@
-//! Answers of the commands `check` and `events`, over files in memory. Each is worked by hand.
+//! Answers of the commands `check`, `events` and `explain`, over files in memory. Each is worked by hand.
 
 use crate::reports::AUTOCALL;
 use pay_edge::MemorySink;
@@ -47,6 +47,48 @@ fn a_command_writes_its_answer(rt: HostRuntime) -> Result<(), Fail> {
             let mut err = MemorySink::new(alloc, ROOM)?;
             assert_eq!(rt;
                 status_of(alloc, &words, &mut depot, &mut out, &mut err)?,
+                status
+            );
+            assert_eq!(rt; out.text(), text.as_bytes());
+        }
+    }
+    Ok(())
+}
+
+// A script of two events, what `explain` writes of the first one, and all that it writes.
+const EXPLAINED: [(&str, &str, &str); 3] = [
+    // An open `if`, and the number of each event's step.
+    (
+        "schedule from @2024-01-01 to @2024-01-03 every 1 d do if spot() > 0 then x = 1 else x = 2 endif y = x + period() end",
+        "event 2024-01-02 period 1 days 1\n  domain x: 1 | 2\n  domain y: 2 | 3\n",
+        "event 2024-01-02 period 1 days 1\n  domain x: 1 | 2\n  domain y: 2 | 3\nevent 2024-01-03 period 2 days 1\n  domain x: 1 | 2\n  domain y: 3 | 4\n",
+    ),
+    // A fixing, a decided `if`, and a variable that is only read.
+    (
+        "@2024-06-28 x = 4 - 1 @2024-07-01 if x = 3 then y = spot() else y = z endif",
+        "event 2024-06-28 period 0 days 0\n  domain x: 3\n  domain y: 0\n  domain z: 0\n",
+        "event 2024-06-28 period 0 days 0\n  domain x: 3\n  domain y: 0\n  domain z: 0\nevent 2024-07-01 period 0 days 0\n  domain x: 3\n  domain y: -100000000000 to 100000000000\n  domain z: 0\n",
+    ),
+    // A number that faults in every run: there is none that it can have.
+    (
+        "@2024-06-28 x = 1 / 0 @2024-07-01 a pays x",
+        "event 2024-06-28 period 0 days 0\n  domain x: none\n",
+        "event 2024-06-28 period 0 days 0\n  domain x: none\nevent 2024-07-01 period 0 days 0\n  domain x: none\n",
+    ),
+];
+
+// Each event is one piece: where the second put fails, what is said of the first event was put.
+#[test]
+fn each_event_is_explained(rt: HostRuntime) -> Result<(), Fail> {
+    let alloc = rt.alloc();
+    for (script, first, whole) in EXPLAINED {
+        for (call, status, text) in [(1, 5, ""), (2, 5, first), (3, 0, whole)] {
+            let mut depot = depot_with(alloc, script.as_bytes(), b"")?;
+            let mut out = MemorySink::new(alloc, ROOM)?;
+            out.fail_put(call)?;
+            let mut err = MemorySink::new(alloc, ROOM)?;
+            assert_eq!(rt;
+                status_of(alloc, &["explain", "s.pay"], &mut depot, &mut out, &mut err)?,
                 status
             );
             assert_eq!(rt; out.text(), text.as_bytes());

@@ -33,7 +33,7 @@ fn words_give_a_request(rt: HostRuntime) -> Result<(), Fail> {
 }
 
 // Words, and the status that they end with where the depot has a script `s.pay` and a table `t.csv`.
-const WORDS: [(&[&str], u8); 24] = [
+const WORDS: [(&[&str], u8); 27] = [
     (&["run", "s.pay", "t.csv"], 0),
     (&[], 2),
     (&["run", "s.pay"], 2),
@@ -66,9 +66,12 @@ const WORDS: [(&[&str], u8); 24] = [
     (&["check", "s.pay", "t.csv"], 2),
     (&["Check", "s.pay"], 2),
     (&["events", "--s.pay"], 2),
-    (&["explain", "s.pay"], 2),
+    (&["explain", "s.pay"], 0),
+    (&["explain"], 2),
+    (&["explain", "s.pay", "t.csv"], 2),
     (&["check", "t.csv"], 3),
     (&["events", "absent"], 4),
+    (&["explain", "absent"], 4),
 ];
 
 #[test]

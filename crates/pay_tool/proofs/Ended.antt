@@ -1,13 +1,15 @@
 -- What an exit says of the ends of a request.
 use Rattle.std.proofs.Common.{◌≡◌, ℕ, List, [], Option, Some, None, IfSome, refl, sym, ap, arith}
 use Rattle.std.proofs.Common.{append-nil}
-use Rattle.pay_edge.specs.Edge.{Files, appended, AppendsFront}
+use Rattle.pay_edge.specs.Edge.{Files, Rose, appended, AppendsFront}
 use Rattle.pay_tool.specs.declared.exit.Exit.{Exit}
 use Rattle.pay_tool.specs.declared.exit.Exit.TheVariants.{Done, NotRequest, Refused, Unread, Unwritten, NoMemory}
 use Rattle.pay_words.specs.Requests.{Asked}
 use Rattle.pay_tool.specs.Answers.{Answer, no_request, absent, refused, report, answer_to, answer_of}
-use Rattle.pay_tool.specs.Causes.{IsGiven, IsTextBegun, IsEarly, Ends, Caused}
-use Rattle.pay_tool.specs.Exits.{status_of}
+use Rattle.pay_tool.specs.Causes.{IsGiven, IsReport, IsTextBegun, IsEarly, Ends, Caused}
+use Rattle.pay_tool.specs.declared.put.PutStop.{PutStop}
+use Rattle.pay_tool.specs.declared.put.PutStop.TheVariants as put
+use Rattle.pay_tool.specs.Exits.{exit_of_put, status_of}
 use Rattle.pay_tool.specs.Lines.{NamesInput, Tells, nothing, of_words, of_refusal, of_read, of_write, of_memory, line_of}
 
 -- at status 0 the answer was given
@@ -26,6 +28,27 @@ pub report_given : (asked : Asked) (bytes : List ℕ) (told : Option Files) (tex
     → IfSome told (λ files. IsGiven (answer_of (Some asked) files) text text')
 report_given asked bytes None text text' answer put = tt
 report_given asked bytes (Some files) text text' answer put = rw answer put
+
+-- a front of a report that is the answer was put
+report_begun : (asked : Asked) (bytes : List ℕ) (told : Option Files) (text text' : Option (List ℕ))
+    → IfSome told (λ files. answer_to asked files ≡ report bytes) → AppendsFront text text' bytes
+    → IfSome told (λ files. IsTextBegun (answer_of (Some asked) files) text text')
+report_begun asked bytes None text text' answer front = tt
+report_begun asked bytes (Some files) text text' answer front = rw answer front
+
+report_unwritten : (asked : Asked) (bytes : List ℕ) (told : Option Files) (text text' : Option (List ℕ))
+    → IfSome told (λ files. answer_to asked files ≡ report bytes) → AppendsFront text text' bytes
+    → IfSome told (λ files. IsReport (answer_of (Some asked) files) × IsTextBegun (answer_of (Some asked) files) text text')
+report_unwritten asked bytes None text text' answer front = tt
+report_unwritten asked bytes (Some files) text text' answer front = rw answer (tt, front)
+
+-- the exit of a report that is the answer and was not put whole has its cause
+pub report_stopped : (asked : Asked) (bytes : List ℕ) (ends : Ends) (stop : PutStop)
+    → IfSome ends.files (λ files. answer_to asked files ≡ report bytes) → AppendsFront ends.text ends.text' bytes
+    → (stop ≡ put.Failed → Rose ends.faults ends.faults') → Caused (Some asked) ends (exit_of_put stop)
+report_stopped asked bytes ends put.Failed answer front rose =
+    (refl, rose refl, report_unwritten asked bytes ends.files ends.text ends.text' answer front)
+report_stopped asked bytes ends put.NoMemory answer front rose = (refl, report_begun asked bytes ends.files ends.text ends.text' answer front)
 
 -- nothing appended is a front
 nothing_begun : (text : Option (List ℕ)) (bytes : List ℕ) → AppendsFront text text bytes

@@ -9,3 +9,4 @@ pub mod RunInputs
 pub mod OneAnswer
 pub mod ColumnLemmas
 pub mod Payable
+pub mod Explained

@@ -9,14 +9,14 @@ use Rattle.pay_report.specs.Detail.{report_text}
 use Rattle.pay_tables.specs.Tables.{Table}
 use Rattle.pay_inputs.specs.declared.refusal.Refusal.{Refusal}
 use Rattle.pay_inputs.specs.Trades.{Trade}
-use Rattle.pay_tool.specs.ScriptTexts.{check_text, events_text}
-use Rattle.pay_words.specs.Requests.{Asked, PastWords, RunWords, run, check_of, list_of, request_of}
+use Rattle.pay_tool.specs.ScriptTexts.{check_text, events_text, explained_text}
+use Rattle.pay_words.specs.Requests.{Asked, PastWords, RunWords, run, check_of, list_of, explain_of, request_of}
 use Rattle.pay_inputs.specs.Inputs.{Input, not_there, bad, good, input_of, checked_script, checked_fixings, checked_table, script_limit, fixings_limit}
 use Rattle.pay_inputs.specs.Inputs.{table_limit, script_of, past_of, table_of}
 use Rattle.pay_tool.specs.Answers.{Answer, report, answer_by, answer_by_past, answer_of}
 use Rattle.pay_inputs.specs.CheckLaws.{IsScriptText, IsScriptFault, IsPastText, IsPastFault, IsTableText, IsTableFault}
 use Rattle.pay_tool.specs.ToolLaws.{IsInput, no_file, too_long, with_fault, with_value, IsScriptInput, IsPastInput, IsTableInput, GivesPast, gives_none}
-use Rattle.pay_tool.specs.ToolLaws.{gives_past, AsksAbout, about_counts, about_events, IsAnswer, without_request, script_absent, script_refused}
+use Rattle.pay_tool.specs.ToolLaws.{gives_past, AsksAbout, about_counts, about_events, about_domains, IsAnswer, without_request, script_absent, script_refused}
 use Rattle.pay_tool.specs.ToolLaws.{past_absent, past_refused, scenarios_absent, scenarios_refused, accepted, about_absent, about_refused}
 use Rattle.pay_tool.specs.ToolLaws.{about_accepted, OneAnswer}
 use Rattle.pay_inputs.proofs.Checks.{script_acceptance, script_refusal, script_there}
@@ -139,6 +139,8 @@ module _ (words : List (List ℕ)) (files : Files) where
   from_request (Some (run asked)) asks = from_script asked asks (script_of files asked.script) (script_input files asked.script)
   from_request (Some (check_of name)) asks = about name check_text (script_of files name) (about_counts name asks) (script_input files name)
   from_request (Some (list_of name)) asks = about name events_text (script_of files name) (about_events name asks) (script_input files name)
+  from_request (Some (explain_of name)) asks =
+      about name explained_text (script_of files name) (about_domains name asks) (script_input files name)
 
   -- the answer to a run of an accepted script is by the past fixings that are asked for
   to_past : (asked : RunWords) (trade : Trade) → request_of words ≡ Some (run asked) → IsScriptInput files asked.script (good trade)
@@ -156,6 +158,7 @@ module _ (words : List (List ℕ)) (files : Files) where
       → answer_of (request_of words) files ≡ answer_by name (script_of files name) (λ trade. report (text trade))
   asked_about _ _ (about_counts name asks) = rw asks refl
   asked_about _ _ (about_events name asks) = rw asks refl
+  asked_about _ _ (about_domains name asks) = rw asks refl
 
   -- there is no other answer
   only : (other : Answer) → IsAnswer words files other → other ≡ answer_of (request_of words) files

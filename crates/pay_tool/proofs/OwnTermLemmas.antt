@@ -15,10 +15,11 @@ use Rattle.pay_tree.specs.declared.owned.Event.{Event as Event'}
 use Rattle.pay_report.specs.Detail.{header_line, last_line, report_text, row_lines, scenario_lines}
 use Rattle.pay_tables.specs.Tables.{Row, Table, cells_of}
 use Rattle.pay_inputs.specs.Trades.{Trade}
-use Rattle.pay_tool.specs.ScriptTexts.{check_text, event_line, events_text}
+use Rattle.pay_explain.proofs.TermLaws.{explained_at_terms}
+use Rattle.pay_tool.specs.ScriptTexts.{check_text, event_line, events_text, explained_text}
 use Rattle.pay_inputs.specs.Inputs.{Input, not_there, bad, good, script_of}
 use Rattle.pay_tool.specs.Answers.{Answer, report, answer_by, answer_to}
-use Rattle.pay_words.specs.Requests.{check_of, list_of}
+use Rattle.pay_words.specs.Requests.{check_of, list_of, explain_of}
 use Rattle.pay_tool.specs.Causes.{is_accepted}
 use Rattle.pay_inputs.specs.OwnTerms.{at_terms, input_at_terms}
 
@@ -48,12 +49,15 @@ pub report_at_terms : (events : List Event) (past : Option Past) (table : Table)
 report_at_terms events past table =
     ap (λ (lines : Row → List ℕ). header_line ++ (flat_map lines table.rows ++ last_line)) (fun_ext (row_same events past table))
 
--- and so are the texts of `check` and of `events`
+-- and so are the texts of `check`, of `events` and of `explain`
 pub check_at_terms : (trade : Trade) → check_text (at_terms trade) ≡ check_text trade
 check_at_terms trade = rw (length-map trade.events at_own_terms) refl
 
 pub events_at_terms : (trade : Trade) → events_text (at_terms trade) ≡ events_text trade
 events_at_terms trade = rw (flat_map-map event_line at_own_terms trade.events) refl
+
+pub explained_terms : (trade : Trade) → explained_text (at_terms trade) ≡ explained_text trade
+explained_terms trade = explained_at_terms trade.variables trade.events
 
 -- an answer that is the same of a script with the numbers is by the value
 pub by_terms : (name : List ℕ) (input : Input Trade) (value : Trade) (rest : Trade → Answer) → input_at_terms input ≡ good value
@@ -83,6 +87,17 @@ pub check_answered : (told : Option Files) (name : List ℕ) (value : Trade) →
     → IfSome told (λ files. answer_to (check_of name) files ≡ report (check_text value))
 check_answered None name value e = tt
 check_answered (Some files) name value e = check_answer name (script_of files name) value e
+
+pub explained_answer : (name : List ℕ) (input : Input Trade) (value : Trade) → input_at_terms input ≡ good value
+    → answer_by name input (λ trade. report (explained_text trade)) ≡ report (explained_text value)
+explained_answer name input value e =
+    by_terms name input value (λ trade. report (explained_text trade)) e (λ trade. ap report (explained_terms trade))
+
+pub explained_answered : (told : Option Files) (name : List ℕ) (value : Trade)
+    → IfSome told (λ files. input_at_terms (script_of files name) ≡ good value)
+    → IfSome told (λ files. answer_to (explain_of name) files ≡ report (explained_text value))
+explained_answered None name value e = tt
+explained_answered (Some files) name value e = explained_answer name (script_of files name) value e
 
 -- the lines of events say nothing of names
 pub lines_unnamed : (names legs : List (List ℕ)) (events : List Event')

@@ -12,7 +12,7 @@ use Rattle.pay_tool.specs.Answers.{Answer, answer_of}
 use Rattle.pay_tool.specs.Causes.{IsGiven}
 use Rattle.pay_tool.specs.Headline.{AsksRun, KnowsPast, knows_none, knows, PaysAsMeant}
 use Rattle.pay_tool.specs.ToolLaws.{IsInput, with_value, IsScriptInput, IsTableInput, GivesPast, gives_none, gives_past, AsksAbout, about_counts}
-use Rattle.pay_tool.specs.ToolLaws.{about_events, IsAnswer, without_request, script_absent, script_refused, past_absent, past_refused, scenarios_absent}
+use Rattle.pay_tool.specs.ToolLaws.{about_events, about_domains, IsAnswer, without_request, script_absent, script_refused, past_absent, past_refused, scenarios_absent}
 use Rattle.pay_tool.specs.ToolLaws.{scenarios_refused, accepted, about_absent, about_refused, about_accepted}
 use Rattle.pay_tool.proofs.OneAnswer.{one_answer}
 
@@ -60,6 +60,7 @@ paid_of words files before after asked trade past table asks script_input gives 
 no_run : (words : List (List ℕ)) (name : List ℕ) (text : Trade → List ℕ) → AsksAbout words name text → AsksRun (request_of words) → ⊥
 no_run words _ _ (about_counts name asks) runs = subst AsksRun asks runs
 no_run words _ _ (about_events name asks) runs = subst AsksRun asks runs
+no_run words _ _ (about_domains name asks) runs = subst AsksRun asks runs
 
 -- an answer to a run that was given is the report of accepted inputs
 paid_by : (words : List (List ℕ)) (files : Files) (before after : List ℕ) (answer : Answer) → IsAnswer words files answer → AsksRun (request_of words)

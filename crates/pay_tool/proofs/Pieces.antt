@@ -54,7 +54,7 @@ rows_put old now f rows i whole h put =
     ∙ ap (λ (left : List ScenarioRow). put.front ++ flat_map f (map row left)) (sym (drop_all i rows h)) ∙ put.split)
 
 -- a piece more was put
-put_more : (old now new : Option (List ℕ)) (piece remaining whole : List ℕ) → HasPut old now (piece ++ remaining) whole → new ≡ appended now piece
+pub put_more : (old now new : Option (List ℕ)) (piece remaining whole : List ℕ) → HasPut old now (piece ++ remaining) whole → new ≡ appended now piece
     → HasPut old new remaining whole
 put_more old now new piece remaining whole h e = record {
   front = h.front ++ piece;
@@ -63,7 +63,7 @@ put_more old now new piece remaining whole h e = record {
 }
 
 -- a front of the next piece was put, which is a front of the whole
-put_part : (old now new : Option (List ℕ)) (piece remaining whole : List ℕ) → HasPut old now (piece ++ remaining) whole → AppendsFront now new piece
+pub put_part : (old now new : Option (List ℕ)) (piece remaining whole : List ℕ) → HasPut old now (piece ++ remaining) whole → AppendsFront now new piece
     → AppendsFront old new whole
 put_part old now new piece remaining whole h f = record {
   front = h.front ++ f.front;

@@ -5,7 +5,7 @@ use Rattle.pay_edge.specs.Edge.{Files, Rose, appended, AppendsFront}
 use Rattle.pay_inputs.specs.declared.refusal.Refusal.{Refusal}
 use Rattle.pay_tool.specs.declared.exit.Exit.{Exit}
 use Rattle.pay_tool.specs.declared.exit.Exit.TheVariants.{Done, NotRequest, Refused, Unread, Unwritten, NoMemory}
-use Rattle.pay_words.specs.Requests.{Asked, PastWords, run, check_of, list_of}
+use Rattle.pay_words.specs.Requests.{Asked, PastWords, run, check_of, list_of, explain_of}
 use Rattle.pay_inputs.specs.Inputs.{Input, not_there, bad, good, script_of, past_of, table_of, script_limit, fixings_limit, table_limit}
 use Rattle.pay_tool.specs.Answers.{Answer, no_request, absent, refused, report, answer_of}
 
@@ -39,6 +39,7 @@ abbrev pub inputs_of : Asked → List InputFile
 inputs_of (run words) = script_input words.script ∷ (past_inputs words.past ++ table_input words.scenarios ∷ [])
 inputs_of (check_of script) = script_input script ∷ []
 inputs_of (list_of script) = script_input script ∷ []
+inputs_of (explain_of script) = script_input script ∷ []
 
 -- the count of an input's name rose, and where the files are told each input before it is accepted
 abbrev pub RoseAmong : List InputFile → Option Files → (List ℕ → ℕ) → (List ℕ → ℕ) → Type 0

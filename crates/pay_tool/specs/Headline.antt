@@ -16,7 +16,7 @@ use Rattle.pay_tables.specs.Records.{records_in}
 use Rattle.pay_tables.specs.Tables.{Table, cells_of}
 use Rattle.pay_tables.specs.Spelling.{SpellsTable, SpellsPast}
 use Rattle.pay_report.specs.Detail.{header_line, last_line, scenario_lines}
-use Rattle.pay_words.specs.Requests.{Asked, PastWords, RunWords, run, check_of, list_of, request_of}
+use Rattle.pay_words.specs.Requests.{Asked, PastWords, RunWords, run, check_of, list_of, explain_of, request_of}
 use Rattle.pay_inputs.specs.Inputs.{script_limit, fixings_limit, table_limit}
 
 -- the words ask for a run
@@ -25,6 +25,7 @@ AsksRun None = ⊥
 AsksRun (Some (run words)) = Unit {0}
 AsksRun (Some (check_of script)) = ⊥
 AsksRun (Some (list_of script)) = ⊥
+AsksRun (Some (explain_of script)) = ⊥
 
 -- the past fixings that a run knows: none where none are asked for, and else those that the records of their file spell, which is not too long,
 -- up to their as-of date

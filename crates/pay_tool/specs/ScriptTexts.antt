@@ -1,9 +1,11 @@
--- The texts of what a script has: what the commands `check` and `events` answer.
+-- The texts of what a script has: what the commands `check`, `events` and `explain` answer.
 use Rattle.std.specs.Prelude.{ℕ, codes, List, [], ◌∷◌, ◌++◌, length}
 use Rattle.std.specs.Fmt.{decimal}
 use Rattle.std.specs.List.{flat_map}
 use Rattle.pay_dates.specs.Days.{day_text}
 use Rattle.pay_meaning.specs.Language.{Event}
+use Rattle.pay_explain.specs.Explaining.{explain_text}
+use Rattle.pay_facts.specs.Facts.{no_facts}
 use Rattle.pay_inputs.specs.Trades.{Trade}
 
 -- a line `events 5`
@@ -23,3 +25,7 @@ event_line event = day_text event.date ++ (44 ∷ (decimal event.period ++ (44 �
 -- the events in order of date, a line each, below a line that names the columns
 abbrev pub events_text : Trade → List ℕ
 events_text trade = codes "date,period,days\n" ++ flat_map event_line trade.events
+
+-- what is said of the events in order of date: for each one its line, and then a line for each variable with all raws that it can have after the event
+abbrev pub explained_text : Trade → List ℕ
+explained_text trade = explain_text trade.variables trade.events no_facts

@@ -7,9 +7,9 @@ use Rattle.pay_inputs.specs.declared.refusal.Refusal.TheVariants.{TooLong}
 use Rattle.pay_meaning.specs.Meaning.{Cells, Past}
 use Rattle.pay_tables.specs.Tables.{Table}
 use Rattle.pay_inputs.specs.Trades.{Trade}
-use Rattle.pay_tool.specs.ScriptTexts.{check_text, events_text}
+use Rattle.pay_tool.specs.ScriptTexts.{check_text, events_text, explained_text}
 use Rattle.pay_report.specs.Detail.{report_text}
-use Rattle.pay_words.specs.Requests.{PastWords, RunWords, run, check_of, list_of, request_of}
+use Rattle.pay_words.specs.Requests.{PastWords, RunWords, run, check_of, list_of, explain_of, request_of}
 use Rattle.pay_inputs.specs.Inputs.{Input, not_there, bad, good, script_limit, fixings_limit, table_limit}
 use Rattle.pay_tool.specs.Answers.{Answer, no_request, absent, refused, report, answer_of}
 use Rattle.pay_inputs.specs.CheckLaws.{IsScriptText, IsScriptFault, IsTableText, IsTableFault, IsPastText, IsPastFault}
@@ -44,6 +44,7 @@ pub data GivesPast (files : Files) : Option PastWords → Option Past → Type 0
 pub data AsksAbout (words : List (List ℕ)) : List ℕ → (Trade → List ℕ) → Type 0 where
   about_counts : (script : List ℕ) → request_of words ≡ Some (check_of script) → AsksAbout words script check_text
   about_events : (script : List ℕ) → request_of words ≡ Some (list_of script) → AsksAbout words script events_text
+  about_domains : (script : List ℕ) → request_of words ≡ Some (explain_of script) → AsksAbout words script explained_text
 
 -- The words are no request; or they ask for a run, and its script is not there, or is refused; or it is accepted, and the past fixings that are
 -- asked for are not there, or are refused; or these are accepted too, and the scenarios are not there, or are refused; or all are accepted, and

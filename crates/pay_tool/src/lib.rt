@@ -1,7 +1,7 @@
 //! The tool: what the words of a command line ask for, done over a depot of files and a sink of text.
 //!
 //! `run_tool` is the whole of it. It reads the request, fetches each file whole and checks it, and only then puts the
-//! answer: that of `run` piece by piece, those of `check` and `events` in one piece. Its contract says of each exit status
+//! answer: those of `run` and `explain` piece by piece, those of `check` and `events` in one piece. Its contract says of each exit status
 //! but 6, want of memory, why it comes. The clause `pays_as_meant` says that a `run` with status 0 has put, for each scenario
 //! in the order of its file, the payments that the script means there.
 //!
@@ -24,6 +24,7 @@ mod about;
 mod aligned;
 mod columns;
 mod exit;
+mod explain;
 pub mod laws;
 mod line;
 mod put;

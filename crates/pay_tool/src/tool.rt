@@ -12,6 +12,7 @@ ghost use Rattle.pay_words.specs.Requests.{asked_in};
 
 use crate::about::{check, events};
 use crate::exit::{Exit, status_of};
+use crate::explain::explain;
 use crate::line::{MEMORY_LINE, file_line, put_line, short_line};
 use crate::run::run;
 use pay_edge::{Depot, Sink};
@@ -29,7 +30,9 @@ use std::alloc::Global;
 ///
 /// `check SCRIPT` fetches and checks the script file, and then puts three lines in one piece: how many events, variables and
 /// legs it has, as `events 5`, `variables 2` and `legs 1`. `events SCRIPT` does the same, and puts the script's events in order
-/// of date in one piece: a line `date,period,days`, and for each event a line as `2024-02-29,1,29`.
+/// of date in one piece: a line `date,period,days`, and for each event a line as `2024-02-29,1,29`. `explain SCRIPT` fetches and checks
+/// the script file, and then puts one piece for each event in order of date: a line as `event 2024-02-29 period 1 days 29`, and for each
+/// variable, by its first appearance, a line as `  domain x: 0 | 1 to 2` with all raws that it can have after the event in any run.
 ///
 /// The status is 0 where the answer was put whole, 2 exactly where the words are no request, 3 where a file is refused, 4
 /// where a file is not there or a fetch failed, 5 where a put failed, and 6 where there was no memory. No file is
@@ -164,6 +167,7 @@ fn serve<D: Depot, O: Sink>(alloc: Global, words: &Vec<String>, depot: &mut D, o
         Ok(Request::Run(words)) => run(alloc, words, depot, out),
         Ok(Request::Check { script }) => check(alloc, script, depot, out),
         Ok(Request::Events { script }) => events(alloc, script, depot, out),
+        Ok(Request::Explain { script }) => explain(alloc, script, depot, out),
         Err(WordsFault::NotRequest) => Exit::NotRequest,
         Err(WordsFault::NoMemory) => Exit::NoMemory,
     }

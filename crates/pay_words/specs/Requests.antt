@@ -19,11 +19,12 @@ pub record RunWords : Type 0 where
   pub scenarios : List ℕ
   pub past : Option PastWords
 
--- a request: `run` with its words, or `check` or `events` with the name of a script file
+-- a request: `run` with its words, or `check`, `events` or `explain` with the name of a script file
 pub data Asked : Type 0 where
   run : RunWords → Asked
   check_of : List ℕ → Asked
   list_of : List ℕ → Asked
+  explain_of : List ℕ → Asked
 
 -- the word begins with `--`
 abbrev pub is_option : List ℕ → Bool
@@ -106,7 +107,8 @@ request_of [] = None
 request_of (command ∷ []) = None
 request_of (command ∷ script ∷ []) =
     if bytes_eq command (codes "check") then with_file check_of script
-    else if bytes_eq command (codes "events") then with_file list_of script else None
+    else if bytes_eq command (codes "events") then with_file list_of script
+    else if bytes_eq command (codes "explain") then with_file explain_of script else None
 request_of (command ∷ script ∷ scenarios ∷ options) =
     if bytes_eq command (codes "run") && is_file_name script && is_file_name scenarios then run_of script scenarios options else None
 

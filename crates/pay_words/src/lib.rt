@@ -6,6 +6,7 @@
 //! run SCRIPT SCENARIOS [--fixings FILE --asof DATE]
 //! check SCRIPT
 //! events SCRIPT
+//! explain SCRIPT
 //! ```
 //!
 //! The two options stand both or neither, in any order. The name of a file isn't empty and doesn't begin with `--`, and a date

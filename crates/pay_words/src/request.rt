@@ -24,6 +24,11 @@ pub enum Request {
         /// The file of the script.
         script: FileName,
     },
+    /// What every variable of a script can hold after each of its events.
+    Explain {
+        /// The file of the script.
+        script: FileName,
+    },
 }
 
 /// The words of the command `run`.
@@ -67,7 +72,8 @@ impl From<AllocError> for WordsFault {
 }
 
 /// The request of the words after a program's name: `run`, a script file and a scenario file, and after them perhaps the options
-/// `--fixings` with a file and `--asof` with a date, both or neither, in any order; or `check` or `events`, and a script file.
+/// `--fixings` with a file and `--asof` with a date, both or neither, in any order; or `check`, `events` or `explain`, and a script
+/// file.
 ///
 /// # Errors
 ///
@@ -104,6 +110,10 @@ fn script_request(alloc: Global, command: &str, script: &str) -> Result<Request,
     if command == "events" {
         let script = FileName::read(alloc, script)?;
         return Ok(Request::Events { script });
+    }
+    if command == "explain" {
+        let script = FileName::read(alloc, script)?;
+        return Ok(Request::Explain { script });
     }
     Err(WordsFault::NotRequest)
 }
