@@ -1,0 +1,3 @@
+pub mod PrintLemmas
+pub mod NameLemmas
+pub mod TextLaws

@@ -1,0 +1,128 @@
+//! Steps and their branches.
+
+ghost use Rattle.std.specs.Prelude.{◌≡◌, ◌++◌, OnOk};
+ghost use Rattle.pay_print.specs.StepText.{else_lines};
+ghost use Rattle.pay_print.specs.TreeText.{has_any, opened_step, opened_steps, step_lines, steps_lines};
+ghost use Rattle.pay_tree.specs.OwnedViews.{step_tree, steps_tree};
+ghost use Rattle.pay_tree.specs.Text as text_of;
+
+use crate::lines::{deeper, print_choice_line, print_line, print_word_line};
+use crate::parts::name_at;
+use pay_fixed::NoMemory;
+use pay_tree::{Name, Step};
+use std::alloc::Global;
+
+/// Appends the lines of steps after this indent, where the variables and the legs have these names. An `if` shows the names of the variables in its list
+/// of changes, in the order of that list. A number past the end of the names has the empty one.
+///
+/// # Errors
+///
+/// [`NoMemory`] where there was no memory; the text then ends in a part of the lines.
+#[cycle(steps)]
+pub fn print_steps(
+    alloc: Global,
+    names: &[Name],
+    legs: &[Name],
+    steps: &[Step],
+    indent: &[u8],
+    text: &mut Vec<u8>,
+) -> Result<(), NoMemory>
+    ensures { OnOk result (text.new.items ≡ text.old.items ++ steps_lines names.now legs.now indent.now (steps_tree steps.now)) }
+{
+    for step in steps {
+        print_step(alloc, names, legs, step, indent, text)?;
+    }
+    Ok(())
+}
+
+/// Appends the lines of a step.
+#[cycle(steps)]
+fn print_step(
+    alloc: Global,
+    names: &[Name],
+    legs: &[Name],
+    step: &Step,
+    indent: &[u8],
+    text: &mut Vec<u8>,
+) -> Result<(), NoMemory>
+    ensures { OnOk result (text.new.items ≡ text.old.items ++ step_lines names.now legs.now indent.now (step_tree step.now)) }
+{
+    match step {
+        Step::Assign { slot, value } => print_line(
+            indent,
+            name_at(names, *slot),
+            b" = ",
+            names,
+            value,
+            text,
+        ),
+        Step::Pay { leg, amount } => print_line(
+            indent,
+            name_at(legs, *leg),
+            b" pays ",
+            names,
+            amount,
+            text,
+        ),
+        Step::If {
+            test,
+            yes,
+            no,
+            changes,
+        } => {
+            print_choice_line(indent, names, test, changes, text)?;
+            let inner = deeper(alloc, indent)?;
+            print_steps(alloc, names, legs, yes, &inner, text)?;
+            print_else(alloc, names, legs, no, indent, text)?;
+            print_word_line(indent, b"endif", text)
+        }
+        Step::Group(steps) => print_steps(alloc, names, legs, steps, indent, text),
+    }
+}
+
+/// Appends the line `else` and the lines of the steps after it, if there is a step once groups are opened.
+#[cycle(steps)]
+fn print_else(
+    alloc: Global,
+    names: &[Name],
+    legs: &[Name],
+    steps: &[Step],
+    indent: &[u8],
+    text: &mut Vec<u8>,
+) -> Result<(), NoMemory>
+    ensures { OnOk result (text.new.items ≡ text.old.items ++ else_lines indent.now (opened_steps (steps_tree steps.now))
+        (steps_lines names.now legs.now (text_of.deeper indent.now) (steps_tree steps.now))) }
+{
+    if has_step(steps) {
+        print_word_line(indent, b"else", text)?;
+        let inner = deeper(alloc, indent)?;
+        print_steps(alloc, names, legs, steps, &inner, text)?;
+    }
+    Ok(())
+}
+
+/// Whether there is a step once groups are opened.
+#[cycle(opened)]
+fn has_step(steps: &[Step]) -> bool
+    ensures { result ≡ has_any (opened_steps (steps_tree steps.now)) }
+{
+    for step in steps {
+        if is_shown(step) {
+            return true;
+        }
+    }
+    false
+}
+
+/// Whether a step stands for one, as each does but a group without any.
+#[cycle(opened)]
+fn is_shown(step: &Step) -> bool
+    ensures { result ≡ has_any (opened_step (step_tree step.now)) }
+{
+    match step {
+        Step::Assign { .. } => true,
+        Step::Pay { .. } => true,
+        Step::If { .. } => true,
+        Step::Group(steps) => has_step(steps),
+    }
+}

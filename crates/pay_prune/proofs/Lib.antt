@@ -1,0 +1,3 @@
+mod PlaceLemmas
+mod FormLemmas
+mod PruneLaw

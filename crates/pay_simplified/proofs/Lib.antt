@@ -1,0 +1,15 @@
+pub mod SimpleLemmas
+pub mod EffectLemmas
+pub mod FormLemmas
+pub mod MarkedLemmas
+pub mod PrunedLemmas
+pub mod ShrinkLemmas
+pub mod BoundLemmas
+pub mod FillingLemmas
+pub mod PaidLemmas
+pub mod LoweringLemmas
+pub mod GoodLemmas
+pub mod SameLemmas
+pub mod TermLemmas
+pub mod FoldedLemmas
+pub mod ExampleProofs

@@ -1,0 +1,5 @@
+pub mod Simplified
+pub mod SimpleLaws
+pub mod Pruning
+pub mod PruningLaws
+pub mod Examples
