@@ -56,24 +56,119 @@ fn a_command_writes_its_answer(rt: HostRuntime) -> Result<(), Fail> {
 }
 
 // A script of two events, what `explain` writes of the first one, and all that it writes.
-const EXPLAINED: [(&str, &str, &str); 3] = [
+const EXPLAINED: [(&str, &str, &str); 4] = [
     // An open `if`, and the number of each event's step.
     (
         "schedule from @2024-01-01 to @2024-01-03 every 1 d do if spot() > 0 then x = 1 else x = 2 endif y = x + period() end",
-        "event 2024-01-02 period 1 days 1\n  domain x: 1 | 2\n  domain y: 2 | 3\n",
-        "event 2024-01-02 period 1 days 1\n  domain x: 1 | 2\n  domain y: 2 | 3\nevent 2024-01-03 period 2 days 1\n  domain x: 1 | 2\n  domain y: 3 | 4\n",
+        "event 2024-01-02 period 1 days 1
+  if spot() > 0 then // changes x
+    x = 1;
+  else
+    x = 2;
+  endif
+  y = (x + 1);
+  domain x: 1 | 2
+  domain y: 2 | 3
+",
+        "event 2024-01-02 period 1 days 1
+  if spot() > 0 then // changes x
+    x = 1;
+  else
+    x = 2;
+  endif
+  y = (x + 1);
+  domain x: 1 | 2
+  domain y: 2 | 3
+event 2024-01-03 period 2 days 1
+  if spot() > 0 then // changes x
+    x = 1;
+  else
+    x = 2;
+  endif
+  y = (x + 2);
+  domain x: 1 | 2
+  domain y: 3 | 4
+",
     ),
     // A fixing, a decided `if`, and a variable that is only read.
     (
         "@2024-06-28 x = 4 - 1 @2024-07-01 if x = 3 then y = spot() else y = z endif",
-        "event 2024-06-28 period 0 days 0\n  domain x: 3\n  domain y: 0\n  domain z: 0\n",
-        "event 2024-06-28 period 0 days 0\n  domain x: 3\n  domain y: 0\n  domain z: 0\nevent 2024-07-01 period 0 days 0\n  domain x: 3\n  domain y: -100000000000 to 100000000000\n  domain z: 0\n",
+        "event 2024-06-28 period 0 days 0
+  x = 3;
+  domain x: 3
+  domain y: 0
+  domain z: 0
+",
+        "event 2024-06-28 period 0 days 0
+  x = 3;
+  domain x: 3
+  domain y: 0
+  domain z: 0
+event 2024-07-01 period 0 days 0
+  y = spot();
+  domain x: 3
+  domain y: -100000000000 to 100000000000
+  domain z: 0
+",
     ),
     // A number that faults in every run: there is none that it can have.
     (
         "@2024-06-28 x = 1 / 0 @2024-07-01 a pays x",
-        "event 2024-06-28 period 0 days 0\n  domain x: none\n",
-        "event 2024-06-28 period 0 days 0\n  domain x: none\nevent 2024-07-01 period 0 days 0\n  domain x: none\n",
+        "event 2024-06-28 period 0 days 0
+  x = (1 / 0);
+  domain x: none
+",
+        "event 2024-06-28 period 0 days 0
+  x = (1 / 0);
+  domain x: none
+event 2024-07-01 period 0 days 0
+  a pays x;
+  domain x: none
+",
+    ),
+    // An `if` that is gone and its chosen branch in its place, an `else` without a step, and tests that are asked for their faults alone.
+    (
+        "@2024-06-28
+  strike = 100
+  if strike > 50 then
+    if spot() >= strike then alive = 1 else fee pays -1 endif
+  else
+    alive = 2
+  endif
+@2024-07-01
+  if spot() * 0 = 0 and alive <= 1 then
+    if 10 / alive < 0 or alive = 1 then opt pays spot() - strike else if alive = 2 then fee pays 2 endif endif
+  else
+    strike = 1
+  endif",
+        "event 2024-06-28 period 0 days 0
+  strike = 100;
+  if spot() >= 100 then // changes alive
+    alive = 1;
+  else
+    fee pays -1;
+  endif
+  domain strike: 100
+  domain alive: 0 | 1
+",
+        "event 2024-06-28 period 0 days 0
+  strike = 100;
+  if spot() >= 100 then // changes alive
+    alive = 1;
+  else
+    fee pays -1;
+  endif
+  domain strike: 100
+  domain alive: 0 | 1
+event 2024-07-01 period 0 days 0
+  if sure(true, (spot() * 0) = 0) then // changes nothing
+    if (sure(false, (10 / alive) < 0) or alive = 1) then // changes nothing
+      opt pays (spot() - 100);
+    endif
+  endif
+  domain strike: 100
+  domain alive: 0 | 1
+",
     ),
 ];
 

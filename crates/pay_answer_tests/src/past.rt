@@ -9,40 +9,40 @@ const PAST_REPORTS: [(&str, &str, &str); 7] = [
     (
         "date,value\n2024-03-15,5000\n2025-03-17,4800\n",
         "2024-12-31",
-        "scenario,date,leg,amount\ns,2024-03-15,a,5000\ns,2025-03-17,a,2\n#nodes,,,\n",
+        "scenario,date,leg,amount\ns,2024-03-15,a,5000\ns,2025-03-17,a,2\n#nodes,4,,\n",
     ),
     (
         "date,value\n2024-03-15,5000\n2025-03-17,4800\n",
         "2024-01-01",
-        "scenario,date,leg,amount\ns,2024-03-15,a,1\ns,2025-03-17,a,2\n#nodes,,,\n",
+        "scenario,date,leg,amount\ns,2024-03-15,a,1\ns,2025-03-17,a,2\n#nodes,4,,\n",
     ),
     // The as-of date itself is past.
     (
         "date,value\n2024-03-15,5000\n2025-03-17,4800\n",
         "2025-03-17",
-        "scenario,date,leg,amount\ns,2024-03-15,a,5000\ns,2025-03-17,a,4800\n#nodes,,,\n",
+        "scenario,date,leg,amount\ns,2024-03-15,a,5000\ns,2025-03-17,a,4800\n#nodes,4,,\n",
     ),
     (
         "date,value\n2024-03-15,5000\n2025-03-17,4800\n",
         "2025-03-16",
-        "scenario,date,leg,amount\ns,2024-03-15,a,5000\ns,2025-03-17,a,2\n#nodes,,,\n",
+        "scenario,date,leg,amount\ns,2024-03-15,a,5000\ns,2025-03-17,a,2\n#nodes,4,,\n",
     ),
     // An empty past value, and one that is not there, are no fixing, whatever the scenario has.
     (
         "date,value\n2024-03-15,\n2025-03-17,4800\n",
         "2024-12-31",
-        "scenario,date,leg,amount\ns,2024-03-15,!missing fixing,\n#nodes,,,\n",
+        "scenario,date,leg,amount\ns,2024-03-15,!missing fixing,\n#nodes,1,,\n",
     ),
     (
         "date,value\n2025-03-17,4800\n",
         "2024-03-15",
-        "scenario,date,leg,amount\ns,2024-03-15,!missing fixing,\n#nodes,,,\n",
+        "scenario,date,leg,amount\ns,2024-03-15,!missing fixing,\n#nodes,1,,\n",
     ),
     // Past fixings may stand in any order.
     (
         "\u{feff}Date,\"Value\"\r\n2025-03-17, 4.8e3 \r\n\r\n2024-03-15,\"5000\"",
         "2025-03-17",
-        "scenario,date,leg,amount\ns,2024-03-15,a,5000\ns,2025-03-17,a,4800\n#nodes,,,\n",
+        "scenario,date,leg,amount\ns,2024-03-15,a,5000\ns,2025-03-17,a,4800\n#nodes,4,,\n",
     ),
 ];
 

@@ -1,65 +1,84 @@
--- Each choice of prepared events has the variables that its branches assign.
-use Rattle.std.proofs.Common.{◌≡◌, ℕ, ◌<◌, nat_eq, false, ◌||◌, List, [], ◌∷◌, ◌++◌, map, refl, sym, ap, ◌∙◌, arith, inl, inr}
-use Rattle.std.proofs.lemmas.Bool.{cases_Bool, eqb-true, eqb-false, eq-eqb, ne_eqb}
-use Rattle.pay_tree.specs.Assigned.{assigned_in}
-use Rattle.pay_tree.specs.Owned.{StepTree, assigning, paying, choosing, grouping, StepsTree, no_steps, step_then, EventTree}
-use Rattle.pay_passes.specs.Changes.{rising, changed_by, filled_step, filled_steps}
-use Rattle.pay_passes.specs.Folding.{folded_steps}
-use Rattle.pay_passes.specs.Gathering.{has}
-use Rattle.pay_passes.specs.PassLaws.{AreLess}
-use Rattle.pay_passes.proofs.RisingLemmas.{IsBefore, first_before, rest_less, rising_less, has_rising}
-use Rattle.pay_passes.proofs.ChangesLemmas.{filled_assign}
-use Rattle.pay_code.specs.Filled.{is_among, IsEachOnce, AreChanges, IsFilled, AreFilledSteps, AreFilled}
-use Rattle.pay_compile.specs.Prepared.{prepared_event}
+-- The events of a good trade up to a date, with their choices filled in: they can be lowered, and pay the trade's own legs.
+use Rattle.std.proofs.Common.{◌≡◌, ℕ, ◌+◌, ◌≤◌, nat_lt, List, [], ◌∷◌, ◌++◌, map, length, IsTrue, Option, refl, ap, ◌∙◌, arith}
+use Rattle.std.proofs.lemmas.List.{length-map, length-append}
+use Rattle.std.specs.List.{list_all}
+use Rattle.pay_dates.specs.declared.day.Day.{Day}
+use Rattle.pay_tree.specs.Owned.{EventTree}
+use Rattle.pay_visit.specs.Showing.{TreePart}
+use Rattle.pay_passes.specs.declared.trade.Trade.{Trade}
+use Rattle.pay_passes.specs.Trades.{trees_of, parts_of_events, IsGood}
+use Rattle.pay_runs.specs.Slots.{steps_within}
+use Rattle.pay_code.specs.declared.op.Op.{Op}
+use Rattle.pay_code.specs.Bounds.{legs_in, pays_in}
+use Rattle.pay_code.specs.Filled.{AreFilled}
+use Rattle.pay_code.specs.Flat.{flat_code}
+use Rattle.pay_code.specs.Programs.{CanBeLowered}
+use Rattle.pay_simplified.specs.Pruning.{filled_event}
+use Rattle.pay_simplified.specs.PruningLaws.{AllCanBePruned, HaveOwnLegs}
+use Rattle.pay_simplified.proofs.BoundLemmas.{and_both}
+use Rattle.pay_simplified.proofs.GoodLemmas.{good_trades_can_be_pruned}
+use Rattle.pay_simplified.proofs.PaidLemmas.{pays_are_legs}
+use Rattle.pay_simplified.proofs.PaidLemmas as paid
+use Rattle.pay_compile.specs.Compiling.{is_until}
+use Rattle.pay_compile.specs.Prepared.{kept_until}
+use Rattle.pay_compile.proofs.PlainLemmas.{events_are_smooth}
+use Rattle.pay_compile.proofs.PartLemmas.{events_have}
+use Rattle.pay_compile.proofs.LegLemmas.{legs_of_parts, legs_both, events_pay, legs_are_own, each_is_one, paying_are_legs}
+use Rattle.pay_compile.proofs.UntilLemmas.{plain_until, fewer_until, events_until_fewer, apart_rise, rise_until}
 
-turned : (a b : ℕ) → nat_eq a b ≡ nat_eq b a
-turned a b = elim (cases_Bool (nat_eq b a)) [
-  | inl hit ↦ eq-eqb a b (sym (eqb-true b a hit)) ∙ sym hit
-  | inr miss ↦ ne_eqb a b (λ same. eqb-false b a miss (sym same)) ∙ sym miss
-]
+-- the events of a trade up to a date, with their choices filled in
+abbrev pub filled_until : Option Day → Trade → List EventTree
+filled_until until trade = map filled_event (kept_until until (trees_of trade))
 
-among_has : (slot : ℕ) (slots : List ℕ) → is_among slot slots ≡ has slots slot
-among_has slot [] = refl
-among_has slot (first ∷ rest) = λ i. turned slot first i || among_has slot rest i
+-- they can be pruned, and their choices are filled
+pub can_be_pruned : (until : Option Day) (trade : Trade) → IsGood trade
+    → AllCanBePruned (length trade.names.items) (filled_until until trade) × AreFilled (filled_until until trade)
+can_be_pruned until trade good = good_trades_can_be_pruned.plain trade (λ event. is_until until event.date) good
 
-later : (slot first : ℕ) (rest : List ℕ) → slot < first → IsBefore first rest → IsBefore slot rest
-later slot first [] h k = tt
-later slot first (second ∷ rest) h k = omega (arith, h, k)
+all_within : (variables : ℕ) (events : List EventTree) → AllCanBePruned variables events
+    → IsTrue (list_all (λ event. steps_within variables event.steps) events)
+all_within variables [] all = refl
+all_within variables (event ∷ rest) all =
+    and_both (steps_within variables event.steps) (list_all (λ event. steps_within variables event.steps) rest) all.0.within
+    (all_within variables rest all.1)
 
--- a number before the first is none of those that rise
-none_among : (slot : ℕ) (slots : List ℕ) → IsBefore slot slots → AreLess slots → is_among slot slots ≡ false
-none_among slot [] h k = refl
-none_among slot (first ∷ rest) h k =
-    ap (λ b. b || is_among slot rest) (ne_eqb slot first (λ e. omega (arith, e, h)))
-    ∙ none_among slot rest (later slot first rest h (first_before first rest k)) (rest_less first rest k)
-
--- numbers that rise are there once each
-less_once : (slots : List ℕ) → AreLess slots → IsEachOnce slots
-less_once [] h = tt
-less_once (first ∷ rest) h = (none_among first rest (first_before first rest h) (rest_less first rest h), less_once rest (rest_less first rest h))
-
-changes_filled : (yes_part no_part : StepsTree) → AreChanges (changed_by yes_part no_part) (filled_steps yes_part) (filled_steps no_part)
-changes_filled yes_part no_part =
-    let slots : List ℕ = assigned_in yes_part ++ assigned_in no_part in
+-- they can be lowered over the trade's variables
+pub filled_lowered : (until : Option Day) (trade : Trade) → IsGood trade → CanBeLowered (filled_until until trade) (length trade.names.items)
+filled_lowered until trade good =
+    let events : List EventTree = kept_until until (trees_of trade) in
+    let variables : ℕ = length trade.names.items in
+    let legs : ℕ = length trade.legs.items in
+    let parts = fewer_until length (λ front back. length-append front back) until (trees_of trade) in
     record {
-      each_once = less_once (rising slots) (rising_less slots);
-      those = λ slot. among_has slot (rising slots) ∙ has_rising slots slot ∙ sym (among_has slot slots)
-          ∙ sym (λ i. is_among slot (filled_assign yes_part i ++ filled_assign no_part i));
+      rise = rise_until until (trees_of trade) (apart_rise trade.names.items trade.legs.items (trees_of trade) good.apart);
+      within = all_within variables (filled_until until trade) (can_be_pruned until trade good).0;
+      few_variables = good.few_names;
+      filled = (can_be_pruned until trade good).1;
+      smooth = events_are_smooth variables legs events (plain_until variables legs until (trees_of trade) good.plain);
+      few_events = omega (arith, length-map events filled_event, events_until_fewer until (trees_of trade), good.few_events);
+      few_parts = omega (arith, events_have events, parts, good.few_parts);
     }
 
-mutual
-  step_is_filled : (step : StepTree) → IsFilled (filled_step step)
-  step_is_filled (assigning slot value) = tt
-  step_is_filled (paying leg amount) = tt
-  step_is_filled (choosing test yes_part no_part changes) =
-      (changes_filled yes_part no_part, (steps_are_filled yes_part, steps_are_filled no_part))
-  step_is_filled (grouping steps) = steps_are_filled steps
+-- their code pays the legs of their parts
+code_pays : (until : Option Day) (trade : Trade)
+    → legs_in (flat_code (filled_until until trade)) ≡ legs_of_parts (parts_of_events (kept_until until (trees_of trade)))
+code_pays until trade = paid.events_pay (filled_until until trade) 0 0 ∙ events_pay (kept_until until (trees_of trade))
 
-  steps_are_filled : (steps : StepsTree) → AreFilledSteps (filled_steps steps)
-  steps_are_filled no_steps = tt
-  steps_are_filled (step_then step rest) = (step_is_filled step, steps_are_filled rest)
+-- these are legs of the trade
+pub filled_legs : (until : Option Day) (trade : Trade) → IsGood trade → HaveOwnLegs (length trade.legs.items) (filled_until until trade)
+filled_legs until trade good =
+    let variables : ℕ = length trade.names.items in
+    let legs : ℕ = length trade.legs.items in
+    ap (list_all (λ leg. nat_lt leg legs)) (code_pays until trade)
+    ∙ legs_are_own variables legs (parts_of_events (kept_until until (trees_of trade))) (plain_until variables legs until (trees_of trade) good.plain)
 
--- the choices of prepared events
-pub events_are_filled : (events : List EventTree) → AreFilled (map prepared_event events)
-events_are_filled [] = tt
-events_are_filled (event ∷ rest) = (steps_are_filled (folded_steps event.steps), events_are_filled rest)
+legs_counted : (front back : List TreePart) → length (legs_of_parts (front ++ back)) ≡ length (legs_of_parts front) + length (legs_of_parts back)
+legs_counted front back = ap length (legs_both front back) ∙ length-append (legs_of_parts front) (legs_of_parts back)
+
+-- and their code has at most 16,384 payments
+pub filled_pays : (until : Option Day) (trade : Trade) → IsGood trade → pays_in (flat_code (filled_until until trade)) ≤ 16_384
+filled_pays until trade good =
+    let code : List Op = flat_code (filled_until until trade) in
+    let pays = pays_are_legs code ∙ each_is_one (legs_in code) ∙ ap length (code_pays until trade) in
+    let fewer = fewer_until (λ parts. length (legs_of_parts parts)) legs_counted until (trees_of trade) in
+    omega (arith, pays, fewer, paying_are_legs (parts_of_events (trees_of trade)), good.few_payments)

@@ -1,9 +1,9 @@
-pub mod FoldedLemmas
-pub mod WithinLemmas
+pub mod PlainLemmas
 pub mod PartLemmas
 pub mod LegLemmas
-pub mod FilledLemmas
 pub mod UntilLemmas
+pub mod EventLemmas
+pub mod FilledLemmas
 pub mod Lowerable
 pub mod ProgramLemmas
 pub mod RefusalLemmas

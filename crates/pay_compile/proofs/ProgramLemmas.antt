@@ -1,11 +1,16 @@
--- A program that stands for the prepared events of a trade: its dates, its legs and payments, and what its runs mean.
+-- A program that stands for the prepared events of a trade: its dates, its legs and payments, what its runs mean, and how many nodes they evaluate.
 use Rattle.std.proofs.Common.{◌≡◌, ℕ, ◌≤◌, false, List, [], ◌∷◌, map, length, Option, Result, Ok, Err, IfOk, refl, sym, ap, subst, ◌∙◌}
 use Rattle.pay_dates.specs.declared.day.Day.{Day}
 use Rattle.pay_meaning.specs.Language.{Event}
 use Rattle.pay_meaning.specs.Meaning.{Fixings, fixing_at, Meaning, meaning, no_variables}
+use Rattle.pay_facts.specs.Facts.{no_facts}
+use Rattle.pay_facts.specs.Holding.{AreFixings}
+use Rattle.pay_facts.specs.SlotFacts.{SlotDomains}
 use Rattle.pay_tree.specs.Owned.{EventTree, spelled_event}
 use Rattle.pay_passes.specs.declared.trade.Trade.{Trade}
 use Rattle.pay_passes.specs.Trades.{trees_of, spelled_trade, IsGood}
+use Rattle.pay_runs.specs.Counting.{node_count}
+use Rattle.pay_runs.specs.SlotCounts.{slot_node_count}
 use Rattle.pay_runs.specs.Weighing.{weighed_meaning}
 use Rattle.pay_runs.specs.Slots.{Row, Slots, meaning_by_slots}
 use Rattle.pay_runs.specs.RunLaws.{MeansSame, row_of}
@@ -17,8 +22,10 @@ use Rattle.pay_code.specs.Execution.{Outcome, run_of}
 use Rattle.pay_code.specs.Execution as code
 use Rattle.pay_code.specs.Programs.{Compiled, run, StandsFor}
 use Rattle.pay_code.proofs.CodeLaw.{code_means}
-use Rattle.pay_compile.specs.Compiling.{events_until, dates_of, RunMeans, MeansDirectly, HasOwnLegs}
-use Rattle.pay_compile.specs.Prepared.{prepared, prepared_event, kept_until, no_values}
+use Rattle.pay_simplified.specs.Simplified.{simplified}
+use Rattle.pay_compile.specs.CompileLaws.{PreparedIsSimplified}
+use Rattle.pay_compile.specs.Compiling.{events_until, dates_of, RunMeans, MeansDirectly, CountsNodes, HasOwnLegs}
+use Rattle.pay_compile.specs.Prepared.{prepared, prepared_from, after_prepared, kept_until, no_values, zero_domains}
 use Rattle.pay_compile.proofs.Lowerable.{can_be_lowered, names_apart, own_legs, few_pays, keeps_meaning, kept_are_spelled, fresh_stands}
 
 -- a program is that of a trade up to a date: it stands for its prepared events, its variables start from 0, and its runs read no smoothings
@@ -47,17 +54,17 @@ abbrev events_of : Option Day → Trade → List Event
 events_of until trade = events_until until (spelled_trade trade)
 
 -- prepared events have the dates of the events that they stand for
-same_dates : (names legs : List (List ℕ)) (events : List EventTree)
-    → code.dates_of (map prepared_event events) ≡ dates_of (map (spelled_event names legs) events)
-same_dates names legs [] = refl
-same_dates names legs (event ∷ rest) = ap (λ dates. event.date ∷ dates) (same_dates names legs rest)
+same_dates : (names legs : List (List ℕ)) (events : List EventTree) (domains : SlotDomains)
+    → code.dates_of (prepared_from events domains) ≡ dates_of (map (spelled_event names legs) events)
+same_dates names legs [] domains = refl
+same_dates names legs (event ∷ rest) domains = ap (λ dates. event.date ∷ dates) (same_dates names legs rest (after_prepared event domains))
 
 -- the dates of the program are those of the trade's events
 pub program_dates : (until : Option Day) (trade : Trade) (program : Compiled) → IsProgramOf until trade program
     → program.dates ≡ dates_of (events_of until trade)
 program_dates until trade program is =
     is.stands.dates
-    ∙ same_dates (names_of trade) (legs_of trade) (kept_until until (trees_of trade))
+    ∙ same_dates (names_of trade) (legs_of trade) (kept_until until (trees_of trade)) (zero_domains (names_of trade))
     ∙ ap dates_of (kept_are_spelled (names_of trade) (legs_of trade) until (trees_of trade))
 
 -- the fixings at the dates of events are their row
@@ -72,45 +79,63 @@ run_is_meant program events slots row stands start crisp =
     (λ i. run_of (crisp i) (stands.table i) (stands.code i) (start i) (stands.dates i) row)
     ∙ code_means false events slots row stands.lowered.filled
 
+-- a run of the program over the fixings at its dates is what the prepared events mean
+run_at_dates : (until : Option Day) (trade : Trade) (program : Compiled) (fixings : Fixings) → IsProgramOf until trade program
+    → run program (map (fixing_at fixings) program.dates)
+    ≡ meant false (prepared until trade) (no_values (names_of trade)) (row_of (prepared until trade) fixings)
+run_at_dates until trade program fixings is =
+    ap (run program) (ap (map (fixing_at fixings)) is.stands.dates ∙ row_at_dates fixings (prepared until trade))
+    ∙ run_is_meant program (prepared until trade) (no_values (names_of trade)) (row_of (prepared until trade) fixings) is.stands is.start is.crisp
+
+-- what the prepared events mean by number is what they mean by name, and as many of their parts are evaluated
+same_by_name : (until : Option Day) (trade : Trade) (fixings : Fixings) → IsGood trade
+    → MeansSame (names_of trade) (legs_of trade)
+    (meaning_by_slots false (prepared until trade) (no_values (names_of trade)) (row_of (prepared until trade) fixings))
+    (weighed_meaning false (map (spelled_event (names_of trade) (legs_of trade)) (prepared until trade)) no_variables fixings)
+    × (slot_node_count false (prepared until trade) (no_values (names_of trade)) (row_of (prepared until trade) fixings)
+    ≡ node_count false (map (spelled_event (names_of trade) (legs_of trade)) (prepared until trade)) no_variables fixings)
+same_by_name until trade fixings good =
+    slots_are_names false (names_of trade) (legs_of trade) (prepared until trade) (no_values (names_of trade)) no_variables fixings
+    (names_apart (names_of trade) good.names) (can_be_lowered until trade good).within (fresh_stands (names_of trade))
+
 -- prepared events of a trade mean, crisp, what its events mean directly
-direct : (until : Option Day) (trade : Trade) (fixings : Fixings)
+direct : PreparedIsSimplified → (until : Option Day) (trade : Trade) (fixings : Fixings) → IsGood trade → AreFixings fixings
     → weighed_meaning false (map (spelled_event (names_of trade) (legs_of trade)) (prepared until trade)) no_variables fixings
     ≡ meaning (events_of until trade) no_variables fixings
-direct until trade fixings =
+direct law until trade fixings good fixed =
     crisp_is_direct.meanings (map (spelled_event (names_of trade) (legs_of trade)) (prepared until trade)) no_variables fixings
-    ∙ keeps_meaning (names_of trade) (legs_of trade) (kept_until until (trees_of trade)) no_variables fixings
-    ∙ ap (λ events. meaning events no_variables fixings) (kept_are_spelled (names_of trade) (legs_of trade) until (trees_of trade))
+    ∙ keeps_meaning law until trade fixings good fixed
 
 -- what a run of a trade's prepared events gives means the same as the trade's events
-meant_directly : (until : Option Day) (trade : Trade) (fixings : Fixings) → IsGood trade
+meant_directly : PreparedIsSimplified → (until : Option Day) (trade : Trade) (fixings : Fixings) → IsGood trade → AreFixings fixings
     → RunMeans (names_of trade) (legs_of trade)
     (meant false (prepared until trade) (no_values (names_of trade)) (row_of (prepared until trade) fixings))
     (meaning (events_of until trade) no_variables fixings)
-meant_directly until trade fixings good =
-    let same = slots_are_names false (names_of trade) (legs_of trade) (prepared until trade) (no_values (names_of trade)) no_variables fixings
-    (names_apart (names_of trade) good.names) (can_be_lowered trade until good).within (fresh_stands (names_of trade)) in
+meant_directly law until trade fixings good fixed =
     subst (λ (m : Meaning). MeansSame (names_of trade) (legs_of trade)
     (meaning_by_slots false (prepared until trade) (no_values (names_of trade)) (row_of (prepared until trade) fixings)) m)
-    (direct until trade fixings) same.0
+    (direct law until trade fixings good fixed) (same_by_name until trade fixings good).0
 
 -- the runs of the program mean what the trade's events mean
-pub program_means : (until : Option Day) (trade : Trade) → IsGood trade → (program : Compiled) → IsProgramOf until trade program
+pub program_means : PreparedIsSimplified → (until : Option Day) (trade : Trade) → IsGood trade → (program : Compiled) → IsProgramOf until trade program
     → MeansDirectly (names_of trade) (legs_of trade) (events_of until trade) program
-program_means until trade good program is fixings =
-    let row : map (fixing_at fixings) program.dates ≡ row_of (prepared until trade) fixings =
-    ap (map (fixing_at fixings)) is.stands.dates ∙ row_at_dates fixings (prepared until trade) in
-    let meant_so : run program (map (fixing_at fixings) program.dates)
-    ≡ meant false (prepared until trade) (no_values (names_of trade)) (row_of (prepared until trade) fixings) =
-    ap (run program) row
-    ∙ run_is_meant program (prepared until trade) (no_values (names_of trade)) (row_of (prepared until trade) fixings) is.stands is.start is.crisp in
+program_means law until trade good program is fixings fixed =
     subst (λ (outcome : Outcome). RunMeans (names_of trade) (legs_of trade) outcome (meaning (events_of until trade) no_variables fixings))
-    (sym meant_so) (meant_directly until trade fixings good)
+    (sym (run_at_dates until trade program fixings is)) (meant_directly law until trade fixings good fixed)
+
+-- they evaluate as many nodes as runs of the simplified script
+pub program_counts : PreparedIsSimplified → (until : Option Day) (trade : Trade) → IsGood trade → (program : Compiled) → IsProgramOf until trade program
+    → CountsNodes (simplified (events_of until trade) no_facts) program
+program_counts law until trade good program is fixings =
+    ap (λ outcome. outcome.nodes) (run_at_dates until trade program fixings is)
+    ∙ (same_by_name until trade fixings good).1
+    ∙ ap (λ events. node_count false events no_variables fixings) (law until trade good)
 
 -- its payments are on the trade's legs, and there are few
 pub program_legs : (until : Option Day) (trade : Trade) → IsGood trade → (program : Compiled) → IsProgramOf until trade program
     → HasOwnLegs (length (legs_of trade)) program
-program_legs until trade good program is = rw is.stands.code (own_legs trade until good)
+program_legs until trade good program is = rw is.stands.code (own_legs until trade good)
 
 pub program_pays : (until : Option Day) (trade : Trade) → IsGood trade → (program : Compiled) → IsProgramOf until trade program
     → pays_in program.code ≤ 16_384
-program_pays until trade good program is = rw is.stands.code (few_pays trade until good)
+program_pays until trade good program is = rw is.stands.code (few_pays until trade good)

@@ -13,8 +13,10 @@ use Rattle.pay_passes.specs.Trades.{is_plain, parts_of_events}
 use Rattle.pay_code.specs.Programs.{IsBefore, Rise}
 use Rattle.pay_code.specs.Execution.{dates_of}
 use Rattle.pay_compile.specs.Compiling.{is_until}
-use Rattle.pay_compile.specs.Prepared.{prepared_event, kept_until}
-use Rattle.pay_compile.proofs.WithinLemmas.{ArePlain, and_both, plain_both}
+use Rattle.pay_simplified.specs.Pruning.{filled_event}
+use Rattle.pay_simplified.proofs.BoundLemmas.{and_both}
+use Rattle.pay_compile.specs.Prepared.{kept_until}
+use Rattle.pay_compile.proofs.PlainLemmas.{ArePlain, plain_both}
 
 -- their parts are plain
 pub plain_until : (variables legs : ℕ) (until : Option Day) (events : List EventTree) → ArePlain variables legs (parts_of_events events)
@@ -67,15 +69,15 @@ before_later date other [] h k = tt
 before_later date other (following ∷ rest) h k = omega (arith, ints, h, k)
 
 before_until : (until : Option Day) (date : Day) (events : List EventTree) → IsBefore date (dates_of events) → Rise (dates_of events)
-    → IsBefore date (dates_of (map prepared_event (kept_until until events)))
+    → IsBefore date (dates_of (map filled_event (kept_until until events)))
 before_until until date [] h rise = tt
 before_until until date (event ∷ rest) h rise = elim (cases_Bool (is_until until event.date)) [
   | inl hit ↦ rw hit h
   | inr miss ↦ rw miss (before_until until date rest (before_later date event.date (dates_of rest) h rise.0) rise.1)
 ]
 
--- their dates rise, and preparing them keeps their dates
-pub rise_until : (until : Option Day) (events : List EventTree) → Rise (dates_of events) → Rise (dates_of (map prepared_event (kept_until until events)))
+-- their dates rise, and filling in their choices keeps their dates
+pub rise_until : (until : Option Day) (events : List EventTree) → Rise (dates_of events) → Rise (dates_of (map filled_event (kept_until until events)))
 rise_until until [] rise = tt
 rise_until until (event ∷ rest) rise = elim (cases_Bool (is_until until event.date)) [
   | inl hit ↦ rw hit (before_until until event.date rest rise.0 rise.1, rise_until until rest rise.1)

@@ -2,4 +2,5 @@
 pub mod Preparing
 pub mod Compiling
 pub mod Prepared
+pub mod CompileLaws
 pub mod Refusals

@@ -3,11 +3,14 @@
 ghost use Rattle.std.specs.Prelude.{◌≡◌, ◌≤◌, false, IfOk, length};
 ghost use Rattle.pay_code.specs.Bounds.{pays_in};
 ghost use Rattle.pay_code.specs.Programs.{StandsFor};
-ghost use Rattle.pay_compile.specs.Compiling.{dates_of, events_until, HasOwnLegs, MeansDirectly};
+ghost use Rattle.pay_compile.specs.Compiling.{CountsNodes, dates_of, events_until, HasOwnLegs, MeansDirectly};
 ghost use Rattle.pay_compile.specs.Prepared.{no_values, prepared};
+ghost use Rattle.pay_facts.specs.Facts.{no_facts};
 ghost use Rattle.pay_passes.specs.Trades.{IsGood, spelled_trade};
+ghost use Rattle.pay_simplified.specs.Simplified.{simplified};
 
 use crate::events::prepared_events;
+use crate::laws::prepared_is_simplified;
 use pay_code::{Program, lower};
 use pay_dates::Day;
 use pay_fixed::{Fixed, NoMemory};
@@ -29,7 +32,10 @@ pub enum Mode {
     Crisp,
 }
 
-/// The program of a trade, which has to be good, from this start: that of its events up to `until`, or of all of them, with their constants folded.
+/// The program of a trade, which has to be good, from this start: that of its events up to `until`, or of all of them, simplified by what is known of
+/// them before any run. A number that is known to have one value, and not to fault, is that number; an `if` whose condition is known to be true, or to
+/// be false, is the branch that runs, and where the condition can fault it stays with that branch alone. What a run pays, how it ends and its fault are
+/// as they were, under fixings within the limit of a number.
 ///
 /// # Errors
 ///
@@ -47,10 +53,12 @@ pub fn compile(
     ensures crisp { IfOk result (λ program. program.fuzzy ≡ false) }
     ensures legs { IfOk result (HasOwnLegs (length trade.now.legs.items)) }
     ensures pays { IfOk result (λ program. pays_in program.code ≤ 16_384) }
+    ensures counts { IfOk result (CountsNodes (simplified (events_until until (spelled_trade trade.now)) no_facts)) }
     ensures means { IfOk result (MeansDirectly trade.now.names.items trade.now.legs.items (events_until until (spelled_trade trade.now))) }
 {
+    prepared_is_simplified();
     let values = start_values(alloc, start, &trade.names)?;
-    let events = prepared_events(alloc, &trade.events, until)?;
+    let events = prepared_events(alloc, &trade.events, until, &values)?;
     lower(alloc, &events, &values, is_fuzzy(mode))
 }
 

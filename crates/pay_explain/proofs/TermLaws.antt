@@ -8,6 +8,9 @@ use Rattle.pay_facts.specs.Ranges.{range, range_of_one, range_of_both}
 use Rattle.pay_facts.specs.Decisions.{decide, comparison_decision, turned_decision, and_decision, or_decision, told_decision}
 use Rattle.pay_facts.specs.After.{after_assignment, after_branches, after_one, after, after_event}
 use Rattle.pay_passes.specs.Terms.{number_at, condition_at, statement_at, body_at, at_own_terms}
+use Rattle.pay_print.specs.StepText.{step_text}
+use Rattle.pay_simplified.specs.Simplified.{simple_body}
+use Rattle.pay_simplified.proofs.TermLemmas.{terms_keep_simplified}
 use Rattle.pay_explain.specs.Explaining.{domain_lines, event_heading, explain_text}
 use Rattle.pay_explain.specs.ExplainLaws.{ExplainedAtTerms}
 
@@ -66,13 +69,23 @@ module _ (event other : Event) where
 event_same : (event : Event) (domains : Domains) → after_event (at_own_terms event) domains ≡ after_event event domains
 event_same event domains = ap (λ facts. facts.domains) (body_same event (at_own_terms event) event.body domains false)
 
+-- the statements of the first of these events, if there is one
+abbrev first_body : List Event → Body
+first_body [] = done
+first_body (event ∷ rest) = event.body
+
+-- the simplified statements are the same
+simple_same : (event : Event) (domains : Domains)
+    → simple_body (at_own_terms event).body domains false (at_own_terms event) ≡ simple_body event.body domains false event
+simple_same event domains = ap first_body (terms_keep_simplified (event ∷ []) domains)
+
 said_same : (names : List (List ℕ)) (events : List Event) (domains : Domains)
     → explain_text names (map at_own_terms events) domains ≡ explain_text names events domains
 said_same names [] domains = refl
 said_same names (event ∷ rest) domains =
-    ap (λ left. (event_heading event ++ domain_lines names (map left names)) ++ explain_text names (map at_own_terms rest) left) (event_same event domains)
-    ∙ ap (λ more. (event_heading event ++ domain_lines names (map (after_event event domains) names)) ++ more)
-    (said_same names rest (after_event event domains))
+    let own = event_same event domains in
+    let onward = ap (explain_text names (map at_own_terms rest)) own ∙ said_same names rest (after_event event domains) in
+    λ i. (event_heading event ++ (step_text names (simple_same event domains i) ++ domain_lines names (map (own i) names))) ++ onward i
 
 pub explained_at_terms : ExplainedAtTerms
 explained_at_terms names events = said_same names events no_facts

@@ -4,7 +4,7 @@ ghost use Rattle.std.specs.Prelude.{◌≡◌, false, ◌<◌, ◌+◌, ◌++◌
 ghost use Rattle.pay_analysis.specs.Walking.{AreAllRaws, AreDomains};
 ghost use Rattle.pay_passes.specs.Trades.{trees_of};
 ghost use Rattle.pay_tree.specs.OwnedViews.{event_tree};
-ghost use Rattle.pay_explain.specs.Explaining.{after_first, after_tree, explain_trees, first_text, tree_text, zero_domains};
+ghost use Rattle.pay_explain.specs.Explaining.{after_first, after_tree, explain_trees, first_text, left_steps, tree_text, zero_domains};
 ghost use Rattle.pay_explain.specs.Known.{AreKnown};
 
 use crate::text::{write_domain_lines, write_heading};
@@ -12,6 +12,8 @@ use pay_analysis::{Facts, walk_event};
 use pay_domains::Domain;
 use pay_fixed::NoMemory;
 use pay_passes::{Trade, fill_changes};
+use pay_print::print_steps;
+use pay_prune::prune_event;
 use pay_tree::{Event, Name, copy_event};
 use std::alloc::Global;
 
@@ -36,8 +38,8 @@ pub fn fresh_facts(alloc: Global, trade: &Trade) -> Result<Facts, NoMemory>
     })
 }
 
-/// What is said of the event at the place `at`, from 0, of a trade: its line, and then a line for each variable. `facts`, those before the event, become
-/// those after it.
+/// What is said of the event at the place `at`, from 0, of a trade: its line, its simplified steps, and then a line for each variable. `facts`, those
+/// before the event, become those after it.
 ///
 /// # Errors
 ///
@@ -51,44 +53,51 @@ pub fn explain_event(
 ) -> Result<Vec<u8>, NoMemory>
     requires event { at < length trade.now.events.items }
     requires known { AreKnown trade.now.names.items facts.now.domains.items }
-    ensures text { IfOk result (λ text. text.items ≡ first_text trade.now.names.items (drop at (trees_of trade.now)) facts.old.domains.items) }
+    ensures text { IfOk result (λ text. text.items
+        ≡ first_text trade.now.names.items trade.now.legs.items (drop at (trees_of trade.now)) facts.old.domains.items) }
     ensures after { OnOk result (facts.new.domains.items ≡ after_first (drop at (trees_of trade.now)) facts.old.domains.items) }
-    ensures onward { IfOk result (λ text. explain_trees trade.now.names.items (drop at (trees_of trade.now)) facts.old.domains.items
-        ≡ text.items ++ explain_trees trade.now.names.items (drop (at + 1) (trees_of trade.now)) facts.new.domains.items) }
+    ensures onward { IfOk result (λ text.
+        explain_trees trade.now.names.items trade.now.legs.items (drop at (trees_of trade.now)) facts.old.domains.items
+        ≡ text.items ++ explain_trees trade.now.names.items trade.now.legs.items (drop (at + 1) (trees_of trade.now)) facts.new.domains.items) }
     ensures known { OnOk result (AreKnown trade.now.names.items facts.new.domains.items) }
 {
     explain(
         alloc,
         trade.names.as_slice(),
+        trade.legs.as_slice(),
         &trade.events[at as usize],
         facts,
     )
 }
 
-/// What is said of an event, whose variables have these names.
+/// What is said of an event, whose variables and legs have these names.
+#[tactic(auto, using(std::proofs::Common::append_assoc))]
 fn explain(
     alloc: Global,
     names: &[Name],
+    legs: &[Name],
     event: &Event,
     facts: &mut Facts,
 ) -> Result<Vec<u8>, NoMemory>
     requires known { AreKnown names.now facts.now.domains.items }
-    ensures text { IfOk result (λ text. text.items ≡ tree_text names.now (event_tree event.now) facts.old.domains.items) }
+    ensures text { IfOk result (λ text. text.items ≡ tree_text names.now legs.now (event_tree event.now) facts.old.domains.items) }
     ensures after { OnOk result (facts.new.domains.items ≡ after_tree (event_tree event.now) facts.old.domains.items) }
     ensures known { OnOk result (AreKnown names.now facts.new.domains.items) }
 {
-    go_through(alloc, event, facts)?;
+    let left = simplified(alloc, event, facts)?;
     let mut text = Vec::new(alloc);
     write_heading(alloc, event, &mut text)?;
+    print_steps(alloc, names, legs, left.steps.as_slice(), b"  ", &mut text)?;
     write_domain_lines(names, facts.domains.as_slice(), &mut text)?;
     Ok(text)
 }
 
-/// Makes the facts before an event those after it. The walk needs the variables that each `if` changes, so it goes through a copy that has them.
-#[tactic(auto, using(crate::proofs::ExplainLemmas::filled_after, crate::proofs::ExplainLemmas::steps_are_filled))]
-fn go_through(alloc: Global, event: &Event, facts: &mut Facts) -> Result<(), NoMemory>
+/// What is left of an event, with the variables that each choice still changes; the facts before the event become those after it.
+#[tactic(auto, using(pay_simplified::proofs::FillingLemmas::filled_after, pay_simplified::proofs::FillingLemmas::steps_are_filled))]
+fn simplified(alloc: Global, event: &Event, facts: &mut Facts) -> Result<Event, NoMemory>
     requires domains { AreDomains facts.now.domains.items }
     requires limits { AreAllRaws facts.now.domains.items }
+    ensures left { IfOk result (λ left. (event_tree left).steps ≡ left_steps (event_tree event.now).steps facts.old.domains.items) }
     ensures after { OnOk result (facts.new.domains.items ≡ after_tree (event_tree event.now) facts.old.domains.items) }
     ensures count { OnOk result (length facts.new.domains.items ≡ length facts.old.domains.items) }
     ensures domains { OnOk result (AreDomains facts.new.domains.items) }
@@ -96,6 +105,8 @@ fn go_through(alloc: Global, event: &Event, facts: &mut Facts) -> Result<(), NoM
 {
     let mut copy = copy_event(alloc, event)?;
     fill_changes(alloc, &mut copy.steps)?;
-    walk_event(alloc, &copy, facts)?;
-    Ok(())
+    let marks = walk_event(alloc, &copy, facts)?;
+    prune_event(&mut copy, &marks);
+    fill_changes(alloc, &mut copy.steps)?;
+    Ok(copy)
 }

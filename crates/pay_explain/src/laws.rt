@@ -1,11 +1,15 @@
-//! Laws of what is said of a script. Each function is empty: what it ensures is the law.
+//! Laws of what is said of a script. Each function is empty, or cites another law: what it ensures is the law.
 
 ghost use Rattle.pay_explain.specs.ExplainLaws.{ExplainedAtTerms, ExplainedByName, ExplainedDomainsHold};
+
+use pay_simplified::laws::pruned_steps_are_simple;
 
 /// What is said of a good trade by the numbers of its variables is said of the events that it stands for, by their names, from no variables.
 pub fn explained_by_name()
     ensures { ExplainedByName }
-{}
+{
+    pruned_steps_are_simple();
+}
 
 /// What is said of events is the same where `period()` and `days()` are their own as literals.
 pub fn explained_at_terms()

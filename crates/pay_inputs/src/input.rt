@@ -5,7 +5,7 @@ ghost use Rattle.pay_edge.specs.Edge.{OnlyRead, SameBut};
 ghost use Rattle.pay_meaning.specs.Meaning.{Cells};
 ghost use Rattle.pay_passes.specs.Trades as trades;
 ghost use Rattle.pay_tables.specs.FixingsFile.{IsInOrder};
-ghost use Rattle.pay_tables.specs.Tables.{IsGood};
+ghost use Rattle.pay_tables.specs.Tables.{IsGood, IsGoodPast};
 ghost use Rattle.pay_tables.specs.Views.{past, table};
 ghost use Rattle.pay_inputs.specs.Inputs.{script_of, script_limit, past_of, fixings_limit, table_of, table_limit, good};
 ghost use Rattle.pay_inputs.specs.InputStops.{StopsAt, stop_of_file};
@@ -127,6 +127,7 @@ pub fn read_past<D: Depot>(alloc: Global, depot: &mut D, name: &str) -> Result<P
     ensures fetches { D.fetches depot.new ≤ D.fetches depot.old + (fixings_limit + 1) }
     ensures accepted { IfOk result (λ found. IfSome (D.files depot.old) (λ files.
         (cells : Cells) × (past_of files name.now ≡ good cells) × IsInOrder cells (past found))) }
+    ensures good { IfOk result (λ found. IsGoodPast (past found)) }
     ensures stopped { IfErr result (StopsAt (D.files depot.old) (λ files. past_of files name.now)
         (D.read_faults depot.old name.now) (D.read_faults depot.new name.now)) }
 {

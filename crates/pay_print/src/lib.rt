@@ -1,4 +1,4 @@
-//! The text of the steps that are left of an event once its tests are decided, as the command `explain` is to show them.
+//! The text of the steps that are left of an event once its tests are decided, as the command `explain` shows them.
 //!
 //! [`print_steps`] appends it. It has the form of the canonical text: an assignment or a payment is a line `x = 1.5;` or `leg pays 1.5;`, and an
 //! `if` has its own line, the lines of its first branch two spaces further in, where its second branch has a step a line `else` and theirs, and a line

@@ -48,7 +48,7 @@ pub fn print_number(names: &[Name], node: &Node, text: &mut Vec<u8>) -> Result<(
 }
 
 /// Appends a test; in `sure`, with its answer, where it is asked for its fault alone.
-#[cycle(test)]
+#[cycle(condition)]
 pub fn print_test(names: &[Name], test: &Test, text: &mut Vec<u8>) -> Result<(), NoMemory>
     ensures { OnOk result (text.new.items ≡ text.old.items ++ condition_text (spelled_test names.now (test_tree test.now))) }
 {
@@ -66,7 +66,7 @@ pub fn print_test(names: &[Name], test: &Test, text: &mut Vec<u8>) -> Result<(),
 }
 
 /// Appends a test of this kind, which is not sure of its answer.
-#[cycle(test)]
+#[cycle(condition)]
 fn print_test_kind(names: &[Name], kind: &TestKind, text: &mut Vec<u8>) -> Result<(), NoMemory>
     ensures { OnOk result (text.new.items ≡ text.old.items ++ condition_text (spelled_test names.now (test_kind_tree kind.now 0 None))) }
 {

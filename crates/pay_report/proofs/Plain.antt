@@ -79,10 +79,10 @@ plain-digits (suc most) number rest h =
       | inr front ↦ rw front (plain-digits most (number / 10) (digit_glyph false (number % 10) ∷ rest) more)
     ]
 
--- a number
-plain-decimal : (number : ℕ) → IsPlain (decimal number)
+-- a count
+pub count_is_plain : (number : ℕ) → IsPlain (decimal number)
 unfolding digits
-plain-decimal number = plain-digits 64 number [] refl
+count_is_plain number = plain-digits 64 number [] refl
 
 -- a digit before a fraction, unless it is a zero at the end
 plain-keep : (digit : ℕ) (rest : List ℕ) → IsPlain rest → IsPlain (keep (48 + digit) rest)
@@ -112,7 +112,7 @@ amount_is_plain amount =
     let whole = decimal (magnitude / 10_000) in
     let fraction = without_zeros (four_digits (magnitude % 10_000)) in
     plain-append (sign_text (int_lt amount (pos 0))) (whole ++ point_text fraction) (plain-sign (int_lt amount (pos 0)))
-    (plain-append whole (point_text fraction) (plain-decimal (magnitude / 10_000)) (plain-point fraction (plain-kept (magnitude % 10_000))))
+    (plain-append whole (point_text fraction) (count_is_plain (magnitude / 10_000)) (plain-point fraction (plain-kept (magnitude % 10_000))))
 
 -- the record of four such fields is their line
 pub plain_line : (first second third fourth : List ℕ) → IsPlain first → IsPlain second → IsPlain third → IsPlain fourth

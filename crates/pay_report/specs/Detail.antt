@@ -1,5 +1,6 @@
 -- The text of the detail report.
 use Rattle.std.specs.Prelude.{ℕ, codes, List, [], ◌∷◌, ◌++◌, map, Option}
+use Rattle.std.specs.Fmt.{decimal}
 use Rattle.std.specs.List.{flat_map}
 use Rattle.pay_dates.specs.Days.{day_text}
 use Rattle.pay_dates.specs.declared.day.Day.{Day}
@@ -18,12 +19,12 @@ use Rattle.pay_tables.specs.Tables.{Row, Table, cells_of}
 abbrev pub line : List ℕ → List ℕ → List ℕ → List ℕ → List ℕ
 line first second third fourth = first ++ (44 ∷ (second ++ (44 ∷ (third ++ (44 ∷ (fourth ++ 10 ∷ []))))))
 
--- the first line of a report, and its last one, whose second field is kept for a count
+-- the first line of a report, and its last one, with how many nodes were evaluated
 abbrev pub header_line : List ℕ
 header_line = line (codes "scenario") (codes "date") (codes "leg") (codes "amount")
 
-abbrev pub last_line : List ℕ
-last_line = line (codes "#nodes") [] [] []
+abbrev pub nodes_line : ℕ → List ℕ
+nodes_line nodes = line (codes "#nodes") (decimal nodes) [] []
 
 -- a payment: the scenario's label, the date, the leg and the amount
 abbrev pub payment_line : List ℕ → Payment → List ℕ
@@ -69,6 +70,6 @@ row_meaning events past table row = meaning events no_variables (fixings_of past
 abbrev pub row_lines : List Event → Option Past → Table → Row → List ℕ
 row_lines events past table row = scenario_lines row.label (row_meaning events past table row)
 
--- the report: its header, the lines of each scenario in the order of the table, and the last line
-abbrev pub report_text : List Event → Option Past → Table → List ℕ
-report_text events past table = header_line ++ (flat_map (row_lines events past table) table.rows ++ last_line)
+-- the report, where so many nodes were evaluated: its header, the lines of each scenario in the order of the table, and the last line
+abbrev pub report_text : List Event → Option Past → Table → ℕ → List ℕ
+report_text events past table nodes = header_line ++ (flat_map (row_lines events past table) table.rows ++ nodes_line nodes)

@@ -1,7 +1,7 @@
 //! The detail report: what each scenario pays, line by line.
 
 ghost use Rattle.std.specs.Prelude.{◌≡◌, ◌<◌, ◌++◌, All, OnOk, OnErr, length};
-ghost use Rattle.pay_report.specs.Detail.{header_line, last_line, line, outcome_lines};
+ghost use Rattle.pay_report.specs.Detail.{header_line, line, nodes_line, outcome_lines};
 ghost use Rattle.pay_report.specs.Lines.{IsPlain};
 
 use crate::detail_writer::DetailWriter;
@@ -80,15 +80,24 @@ pub fn detail_rows(
     Ok(())
 }
 
-/// Appends the last line, `#nodes,,,`: its second field is for the number of evaluated nodes, which no report writes yet.
+/// Appends the last line, such as `#nodes,42,,`: how many nodes were evaluated in all scenarios.
 ///
 /// # Errors
 ///
 /// [`NoMemory`] where there was no memory for it; then `into` is as before.
-pub fn last_line(alloc: Global, into: &mut Vec<u8>) -> Result<(), NoMemory>
-    ensures ok { OnOk result (into.new.items ≡ into.old.items ++ last_line) }
+#[tactic(auto, using(crate::proofs::Plain::count_is_plain))]
+pub fn nodes_line(alloc: Global, nodes: u64, into: &mut Vec<u8>) -> Result<(), NoMemory>
+    ensures ok { OnOk result (into.new.items ≡ into.old.items ++ nodes_line nodes) }
     ensures err { OnErr result (into.new.items ≡ into.old.items) }
 {
+    let digits = nodes.to_string(alloc)?;
     let nothing = b"".as_slice();
-    append_line(alloc, b"#nodes".as_slice(), nothing, nothing, nothing, into)
+    append_line(
+        alloc,
+        b"#nodes".as_slice(),
+        digits.as_bytes(),
+        nothing,
+        nothing,
+        into,
+    )
 }

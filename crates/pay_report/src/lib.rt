@@ -6,7 +6,7 @@
 //! scenario,date,leg,amount
 //! up,2024-06-28,opt,12.5
 //! gone,2024-06-28,!missing fixing,
-//! #nodes,,,
+//! #nodes,7,,
 //! ```
 //!
 //! Each line ends with a line feed, and no field needs quotes. A [`DetailWriter`] gives the lines of scenarios one after the other, with the same
@@ -19,5 +19,5 @@ mod detail;
 mod detail_writer;
 mod lines;
 
-pub use detail::{detail_header, detail_rows, last_line};
+pub use detail::{detail_header, detail_rows, nodes_line};
 pub use detail_writer::DetailWriter;

@@ -4,7 +4,7 @@ ghost use Rattle.std.specs.Prelude.{◌<◌, All, IsTrue, length};
 
 use crate::program::{outcome_of, trade_of};
 use pay_machine::Payment;
-use pay_report::{DetailWriter, detail_header, detail_rows, last_line};
+use pay_report::{DetailWriter, detail_header, detail_rows, nodes_line};
 use pay_tables::Label;
 use std::alloc::Global;
 use std::test::Fail;
@@ -94,10 +94,10 @@ fn the_first_and_the_last_line(rt: HostRuntime) -> Result<(), Fail> {
     let alloc = rt.alloc();
     let mut text = Vec::from_slice(alloc, b"so far\n")?;
     detail_header(alloc, &mut text)?;
-    last_line(alloc, &mut text)?;
+    nodes_line(alloc, 42, &mut text)?;
     assert_eq!(rt;
         text.as_slice(),
-        b"so far\nscenario,date,leg,amount\n#nodes,,,\n".as_slice()
+        b"so far\nscenario,date,leg,amount\n#nodes,42,,\n".as_slice()
     );
     Ok(())
 }

@@ -65,7 +65,7 @@ const RUNS: [(&[u8], &[Option<i64>], &[u8]); 20] = [
     (
         b"@2024-01-10 if 1 = 2 and 1/0 = 1 then a pays 1 else b pays 2 endif",
         &[None],
-        b" 1:2@2024-01-10 done #5",
+        b" 1:2@2024-01-10 done #2",
     ),
     // Each form of a condition and of a number.
     (

@@ -2,7 +2,7 @@
 use Rattle.std.proofs.Common.{◌≡◌, ℕ, ◌≤◌, List, [], ◌++◌, length, drop, map, Result, Ok, Err, OnOk, Option, sym, ap, subst, ◌∙◌, append-nil}
 use Rattle.std.proofs.lemmas.List.{length-map, drop_all}
 use Rattle.pay_edge.specs.Edge.{appended, AppendsFront}
-use Rattle.pay_explain.proofs.NameLaws.{explained_by_name}
+use Rattle.pay_explain.specs.ExplainLaws.{ExplainedByName}
 use Rattle.pay_explain.specs.Explaining.{explain_trees, zero_domains}
 use Rattle.pay_facts.specs.SlotFacts.{SlotDomains}
 use Rattle.pay_inputs.specs.TradeViews.{trade}
@@ -19,28 +19,28 @@ pub few_events : (found : Trade) → IsGood found → length found.events.items 
 few_events found good = rw (sym (length-map found.events.items event_tree)) good.few_events
 
 -- what is said of the trees of a good trade, from zeros, is the text
-pub said : (found : Trade) (domains : SlotDomains) → IsGood found → domains ≡ zero_domains found.names.items
-    → explain_trees found.names.items (trees_of found) domains ≡ explained_text (trade found)
-said found domains good zero =
-    ap (explain_trees found.names.items (trees_of found)) zero ∙ explained_by_name found good
+pub said : ExplainedByName → (found : Trade) (domains : SlotDomains) → IsGood found → domains ≡ zero_domains found.names.items
+    → explain_trees found.names.items found.legs.items (trees_of found) domains ≡ explained_text (trade found)
+said by_name found domains good zero =
+    ap (explain_trees found.names.items found.legs.items (trees_of found)) zero ∙ by_name found good
 
-pub explained_trees : {A E : Type 0} (r : Result A E) (old new : Option (List ℕ)) (found : Trade) (domains : SlotDomains)
+pub explained_trees : ExplainedByName → {A E : Type 0} (r : Result A E) (old new : Option (List ℕ)) (found : Trade) (domains : SlotDomains)
     → IsGood found → domains ≡ zero_domains found.names.items
-    → OnOk r (new ≡ appended old (explain_trees found.names.items (trees_of found) domains)) → OnOk r (new ≡ appended old (explained_text (trade found)))
-explained_trees (Ok a) old new found domains good zero put = put ∙ ap (appended old) (said found domains good zero)
-explained_trees (Err e) old new found domains good zero put = put
+    → OnOk r (new ≡ appended old (explain_trees found.names.items found.legs.items (trees_of found) domains)) → OnOk r (new ≡ appended old (explained_text (trade found)))
+explained_trees by_name (Ok a) old new found domains good zero put = put ∙ ap (appended old) (said by_name found domains good zero)
+explained_trees by_name (Err e) old new found domains good zero put = put
 
-pub explained_front : (old new : Option (List ℕ)) (found : Trade) (domains : SlotDomains) → IsGood found → domains ≡ zero_domains found.names.items
-    → AppendsFront old new (explain_trees found.names.items (trees_of found) domains) → AppendsFront old new (explained_text (trade found))
-explained_front old new found domains good zero front = subst (AppendsFront old new) (said found domains good zero) front
+pub explained_front : ExplainedByName → (old new : Option (List ℕ)) (found : Trade) (domains : SlotDomains) → IsGood found → domains ≡ zero_domains found.names.items
+    → AppendsFront old new (explain_trees found.names.items found.legs.items (trees_of found) domains) → AppendsFront old new (explained_text (trade found))
+explained_front by_name old new found domains good zero front = subst (AppendsFront old new) (said by_name found domains good zero) front
 
 -- where no event is left the whole was put
-pub events_put : (old now : Option (List ℕ)) (names : List (List ℕ)) (events : List EventTree) (domains : SlotDomains) (i : ℕ) (whole : List ℕ)
-    → length events ≤ i → HasPut old now (explain_trees names (drop i events) domains) whole → now ≡ appended old whole
-events_put old now names events domains i whole h put =
+pub events_put : (old now : Option (List ℕ)) (names legs : List (List ℕ)) (events : List EventTree) (domains : SlotDomains) (i : ℕ) (whole : List ℕ)
+    → length events ≤ i → HasPut old now (explain_trees names legs (drop i events) domains) whole → now ≡ appended old whole
+events_put old now names legs events domains i whole h put =
     put.text
     ∙ ap (appended old) (sym (append-nil put.front)
-    ∙ ap (λ (left : List EventTree). put.front ++ explain_trees names left domains) (sym (drop_all i events h)) ∙ put.split)
+    ∙ ap (λ (left : List EventTree). put.front ++ explain_trees names legs left domains) (sym (drop_all i events h)) ∙ put.split)
 
 -- what is said of an event was put
 pub event_put : (old now new : Option (List ℕ)) (piece left remaining whole : List ℕ) → HasPut old now left whole → left ≡ piece ++ remaining

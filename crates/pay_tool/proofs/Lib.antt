@@ -3,6 +3,7 @@ pub mod Paid
 pub mod Ended
 pub mod Inputs
 pub mod OwnTermLemmas
+pub mod FixingLimits
 pub mod RunLines
 pub mod PastOrder
 pub mod RunInputs

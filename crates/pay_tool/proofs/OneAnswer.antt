@@ -5,7 +5,7 @@ use Rattle.std.specs.Prelude.{◌↔◌}
 use Rattle.std.specs.FinMap.{get}
 use Rattle.pay_edge.specs.Edge.{Files, Long, Bytes, whole_from}
 use Rattle.pay_meaning.specs.Meaning.{Cells, Past}
-use Rattle.pay_report.specs.Detail.{report_text}
+use Rattle.pay_tool.specs.RunTexts.{run_text}
 use Rattle.pay_tables.specs.Tables.{Table}
 use Rattle.pay_inputs.specs.declared.refusal.Refusal.{Refusal}
 use Rattle.pay_inputs.specs.Trades.{Trade}
@@ -86,7 +86,7 @@ only_table files name input h = only_input IsTableText IsTableFault checked_tabl
 
 -- the answer to a run of an accepted script under these past fixings, by its scenarios
 abbrev run_answer : RunWords → Trade → Option Past → Input Table → Answer
-run_answer asked trade past scenarios = answer_by asked.scenarios scenarios (λ table. report (report_text trade.events past table))
+run_answer asked trade past scenarios = answer_by asked.scenarios scenarios (λ table. report (run_text trade.events past table))
 
 -- the answer to a run of an accepted script, by the past fixings that are asked for
 abbrev past_answer : Files → RunWords → Trade → Option PastWords → Answer

@@ -12,10 +12,13 @@ use Rattle.pay_edge.specs.Edge.{Files}
 use Rattle.pay_tree.specs.Owned.{spelled_event}
 use Rattle.pay_tree.specs.OwnedViews.{event_tree}
 use Rattle.pay_tree.specs.declared.owned.Event.{Event as Event'}
-use Rattle.pay_report.specs.Detail.{header_line, last_line, report_text, row_lines, scenario_lines}
+use Rattle.pay_report.specs.Detail.{header_line, nodes_line, report_text, row_lines, scenario_lines}
 use Rattle.pay_tables.specs.Tables.{Row, Table, cells_of}
 use Rattle.pay_inputs.specs.Trades.{Trade}
 use Rattle.pay_explain.proofs.TermLaws.{explained_at_terms}
+use Rattle.pay_facts.specs.Facts.{no_facts}
+use Rattle.pay_simplified.proofs.TermLemmas.{terms_keep_simplified}
+use Rattle.pay_tool.specs.RunTexts.{nodes_in, row_nodes, sum_over, run_text}
 use Rattle.pay_tool.specs.ScriptTexts.{check_text, event_line, events_text, explained_text}
 use Rattle.pay_inputs.specs.Inputs.{Input, not_there, bad, good, script_of}
 use Rattle.pay_tool.specs.Answers.{Answer, report, answer_by, answer_to}
@@ -44,10 +47,17 @@ row_same : (events : List Event) (past : Option Past) (table : Table) (row : Row
     → row_lines (map at_own_terms events) past table row ≡ row_lines events past table row
 row_same events past table row = ap (scenario_lines row.label) (terms-keep events no_variables (fixings_of past (cells_of table row)))
 
--- the report is that of the events themselves
-pub report_at_terms : (events : List Event) (past : Option Past) (table : Table) → report_text (map at_own_terms events) past table ≡ report_text events past table
-report_at_terms events past table =
-    ap (λ (lines : Row → List ℕ). header_line ++ (flat_map lines table.rows ++ last_line)) (fun_ext (row_same events past table))
+-- as many nodes are evaluated
+nodes_same : (events : List Event) (past : Option Past) (table : Table) → nodes_in (map at_own_terms events) past table ≡ nodes_in events past table
+nodes_same events past table =
+    ap (λ (simple : List Event). sum_over (row_nodes simple past table) table.rows) (terms_keep_simplified events no_facts)
+
+-- the text of a run is that of the events themselves
+pub run_at_terms : (events : List Event) (past : Option Past) (table : Table) → run_text (map at_own_terms events) past table ≡ run_text events past table
+run_at_terms events past table =
+    ap (λ (lines : Row → List ℕ). header_line ++ (flat_map lines table.rows ++ nodes_line (nodes_in (map at_own_terms events) past table)))
+    (fun_ext (row_same events past table))
+    ∙ ap (report_text events past table) (nodes_same events past table)
 
 -- and so are the texts of `check`, of `events` and of `explain`
 pub check_at_terms : (trade : Trade) → check_text (at_terms trade) ≡ check_text trade

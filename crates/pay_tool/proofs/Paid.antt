@@ -3,6 +3,7 @@ use Rattle.std.proofs.Common.{◌≡◌, ℕ, ◌≤◌, List, ◌++◌, length,
 use Rattle.pay_edge.specs.Edge.{Files}
 use Rattle.pay_meaning.specs.Meaning.{Past}
 use Rattle.pay_report.specs.Detail.{report_text}
+use Rattle.pay_tool.specs.RunTexts.{nodes_in, run_text}
 use Rattle.pay_tables.specs.Tables.{Table}
 use Rattle.pay_inputs.specs.declared.refusal.Refusal.{Refusal}
 use Rattle.pay_inputs.specs.Trades.{Trade}
@@ -31,7 +32,7 @@ past_known files _ _ (gives_past words cells input) =
 -- the parts of the headline
 paid_of : (words : List (List ℕ)) (files : Files) (before after : List ℕ) (asked : RunWords) (trade : Trade) (past : Option Past) (table : Table)
     → request_of words ≡ Some (run asked) → IsScriptInput files asked.script (good trade) → GivesPast files asked.past past
-    → IsTableInput files asked.scenarios (good table) → after ≡ before ++ report_text trade.events past table → PaysAsMeant words files before after
+    → IsTableInput files asked.scenarios (good table) → after ≡ before ++ run_text trade.events past table → PaysAsMeant words files before after
 paid_of words files before after asked trade past table asks script_input gives table_input text =
     let script_file = file_of _ _ _ _ trade script_input in
     let table_file = file_of _ _ _ _ table table_input in
@@ -53,7 +54,8 @@ paid_of words files before after asked trade past table asks script_input gives 
       knows_past = past_known files asked.past past gives;
       table = table;
       spells_table = table_file.3;
-      text = text ∙ ap (λ (x : Trade). before ++ report_text x.events past table) (sym read.has);
+      nodes = nodes_in trade.events past table;
+      text = text ∙ ap (λ (x : Trade). before ++ report_text x.events past table (nodes_in trade.events past table)) (sym read.has);
     }
 
 -- words that ask about a script ask for no run

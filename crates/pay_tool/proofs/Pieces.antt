@@ -1,10 +1,11 @@
 -- A text that is put in pieces.
 use Rattle.std.proofs.Common.{◌≡◌, ℕ, ◌+◌, ◌<◌, ◌≤◌, List, [], ◌++◌, length, get_or, drop, map, Result, Ok, Err, OnOk, All, refl, sym, ap, subst, ◌∙◌}
-use Rattle.std.proofs.Common.{append_assoc, append-nil}
+use Rattle.std.proofs.Common.{append_assoc, append-nil, arith}
 use Rattle.std.proofs.lemmas.List.{length-map, drop_all, drop_more, get_or-map}
 use Rattle.std.specs.List.{flat_map}
 use Rattle.pay_tables.specs.declared.scenarios.ScenarioRow.{ScenarioRow}
-use Rattle.pay_tables.specs.Tables.{Row}
+use Rattle.pay_tables.specs.Tables.{IsCell, Row}
+use Rattle.pay_tool.specs.RunTexts.{sum_over}
 use Rattle.pay_tables.specs.Views.{row}
 use Rattle.std.specs.declared.option.Option.{Option}
 use Rattle.std.specs.declared.option.Option.TheVariants.{None, Some}
@@ -102,6 +103,32 @@ pub full_at : (rows : List ScenarioRow) (n i : ℕ) (r : ScenarioRow) → All (�
 full_at rows n i r full h e =
     let small : i < length (map row rows) = rw (length-map rows row) h in
     ap (λ (x : ScenarioRow). length x.cells.items) e ∙ ap (λ (x : Row). length x.cells) (sym (get_or-map row rows i r (row r) h)) ∙ full i (row r) small
+
+-- the nodes of rows from a place on are those of the row there and of the rows after it
+pub nodes_split : (count : Row → ℕ) (rows : List ScenarioRow) (i : ℕ) (r : ScenarioRow) (before more : ℕ) → i < length rows → r ≡ get_or rows i r
+    → before + sum_over count (map row (drop i rows)) ≡ sum_over count (map row rows) → more ≡ count (row r)
+    → (before + more) + sum_over count (map row (drop (i + 1) rows)) ≡ sum_over count (map row rows)
+nodes_split count rows i r before more h e counted same =
+    let split : sum_over count (map row (drop i rows)) ≡ count (row r) + sum_over count (map row (drop (i + 1) rows)) =
+    ap (λ (xs : List ScenarioRow). sum_over count (map row xs)) (drop_more rows i r h)
+    ∙ ap (λ (x : ScenarioRow). count (row x) + sum_over count (map row (drop (i + 1) rows))) (sym e)
+    in
+    omega (arith, split, counted, same)
+
+-- where no row remains all nodes are counted
+pub nodes_done : (count : Row → ℕ) (rows : List ScenarioRow) (i : ℕ) (so_far whole : ℕ) → length rows ≤ i
+    → so_far + sum_over count (map row (drop i rows)) ≡ whole → so_far ≡ whole
+nodes_done count rows i so_far whole h counted =
+    let none : sum_over count (map row (drop i rows)) ≡ 0 = ap (λ (xs : List ScenarioRow). sum_over count (map row xs)) (drop_all i rows h) in
+    omega (arith, none, counted)
+
+-- the cells of a row can be fixings where those of all rows can
+pub fixings_at : (rows : List ScenarioRow) (i : ℕ) (r : ScenarioRow) → All (λ (x : Row). All IsCell x.cells) (map row rows) → i < length rows
+    → r ≡ get_or rows i r → All IsCell r.cells.items
+fixings_at rows i r all h e =
+    let small : i < length (map row rows) = rw (length-map rows row) h in
+    subst (λ (x : ScenarioRow). All IsCell x.cells.items) (sym e)
+    (subst (λ (x : Row). All IsCell x.cells) (get_or-map row rows i r (row r) h) (all i (row r) small))
 
 -- two pieces were put, and a third one where this is `Ok`
 pub put_thrice : {A E : Type 0} (r : Result A E) (old now middle new : Option (List ℕ)) (piece more last : List ℕ) → now ≡ appended old piece

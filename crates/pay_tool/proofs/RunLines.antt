@@ -1,5 +1,5 @@
 -- A run of an aligned program gives what its events mean under the fixings of a row.
-use Rattle.std.proofs.Common.{◌≡◌, ℕ, zero, suc, ◌<◌, nat_lt, Bool, true, false, inl, inr, ℤ, List, [], ◌∷◌, length, map}
+use Rattle.std.proofs.Common.{◌≡◌, ℕ, zero, suc, ◌<◌, nat_lt, Bool, true, false, inl, inr, ℤ, sym, List, [], ◌∷◌, length, map}
 use Rattle.std.proofs.Common.{Option, None, IsTrue, All, refl, ap, ◌∙◌, arith}
 use Rattle.std.specs.List.{list_all, zip}
 use Rattle.std.proofs.lemmas.List.{length-map}
@@ -11,7 +11,9 @@ use Rattle.pay_tables.specs.Tables.{are_distinct}
 use Rattle.pay_code.specs.Bounds.{legs_in, AreOnLegs}
 use Rattle.pay_code.specs.Filled.{is_among}
 use Rattle.pay_code.specs.Programs.{Compiled, run}
-use Rattle.pay_compile.specs.Compiling.{events_until, HasOwnLegs, MeansDirectly}
+use Rattle.pay_compile.specs.Compiling.{events_until, CountsNodes, HasOwnLegs, MeansDirectly}
+use Rattle.pay_facts.specs.Holding.{AreFixings}
+use Rattle.pay_runs.specs.Counting.{node_count}
 use Rattle.pay_machine.specs.declared.outcome.Payment.{Payment}
 use Rattle.pay_machine.specs.Outcomes.{Given, IsOutcome}
 use Rattle.pay_machine.specs.Runs.{IsGiven, IsBounded}
@@ -61,10 +63,22 @@ full_row sources cells row past dates own aligned filled =
 pub run_outcome : (names legs : List (List ℕ)) (events : List Event) (program : Compiled) (past : Option Past) (dates : List Day)
     (cells row : List (Option ℤ)) (sources : List FixingSource) (given : Given)
     → sources ≡ map (λ date. source_of past dates date) program.dates → row ≡ cells_from sources cells → IsTrue (are_distinct dates)
-    → length cells ≡ length dates → MeansDirectly names legs events program → HasOwnLegs (length legs) program → IsGiven (run program row) given
+    → length cells ≡ length dates → AreFixings (fixings_of past (zip dates cells)) → MeansDirectly names legs events program
+    → HasOwnLegs (length legs) program → IsGiven (run program row) given
     → IsBounded program given → IsOutcome names legs (meaning events no_variables (fixings_of past (zip dates cells))) given
-run_outcome names legs events program past dates cells row sources given aligned filled distinct full means own is bounded =
+run_outcome names legs events program past dates cells row sources given aligned filled distinct full fixed means own is bounded =
     let same : row ≡ map (fixing_at (fixings_of past (zip dates cells))) program.dates =
     filled ∙ ap (λ (xs : List FixingSource). cells_from xs cells) aligned ∙ row_cells past dates cells program.dates distinct full in
     numbers_are_names names legs (run program row) (meaning events no_variables (fixings_of past (zip dates cells))) given is
-    (rw same (means (fixings_of past (zip dates cells)))) (legs_below (legs_in program.code) (length legs) given.payments own bounded.legs)
+    (rw same (means (fixings_of past (zip dates cells)) fixed)) (legs_below (legs_in program.code) (length legs) given.payments own bounded.legs)
+
+-- the run evaluates as many nodes as a run of these events
+pub run_nodes : (events : List Event) (program : Compiled) (past : Option Past) (dates : List Day)
+    (cells row : List (Option ℤ)) (sources : List FixingSource) (given : Given)
+    → sources ≡ map (λ date. source_of past dates date) program.dates → row ≡ cells_from sources cells → IsTrue (are_distinct dates)
+    → length cells ≡ length dates → CountsNodes events program → IsGiven (run program row) given
+    → given.nodes ≡ node_count false events no_variables (fixings_of past (zip dates cells))
+run_nodes events program past dates cells row sources given aligned filled distinct full counts is =
+    let same : row ≡ map (fixing_at (fixings_of past (zip dates cells))) program.dates =
+    filled ∙ ap (λ (xs : List FixingSource). cells_from xs cells) aligned ∙ row_cells past dates cells program.dates distinct full in
+    is.nodes ∙ ap (λ (cells : List (Option ℤ)). (run program cells).nodes) same ∙ counts (fixings_of past (zip dates cells))

@@ -2,10 +2,10 @@
 use Rattle.std.specs.Prelude.{ℕ, List, Option, Some, None}
 use Rattle.pay_edge.specs.Edge.{Files}
 use Rattle.pay_meaning.specs.Meaning.{Past}
-use Rattle.pay_report.specs.Detail.{report_text}
 use Rattle.pay_words.specs.Requests.{Asked, PastWords, run, check_of, list_of, explain_of}
 use Rattle.pay_inputs.specs.declared.refusal.Refusal.{Refusal}
 use Rattle.pay_inputs.specs.Inputs.{Input, not_there, bad, good, script_of, past_of, table_of}
+use Rattle.pay_tool.specs.RunTexts.{run_text}
 use Rattle.pay_tool.specs.ScriptTexts.{check_text, events_text, explained_text}
 
 -- The answer: the words are no request; or the first input that isn't accepted is this file, which isn't there;
@@ -33,7 +33,7 @@ abbrev pub answer_to : Asked → Files → Answer
 answer_to (run words) files =
     answer_by words.script (script_of files words.script) (λ trade.
     answer_by_past files words.past (λ past.
-    answer_by words.scenarios (table_of files words.scenarios) (λ table. report (report_text trade.events past table))))
+    answer_by words.scenarios (table_of files words.scenarios) (λ table. report (run_text trade.events past table))))
 answer_to (check_of script) files = answer_by script (script_of files script) (λ trade. report (check_text trade))
 answer_to (list_of script) files = answer_by script (script_of files script) (λ trade. report (events_text trade))
 answer_to (explain_of script) files = answer_by script (script_of files script) (λ trade. report (explained_text trade))

@@ -15,7 +15,7 @@ use Rattle.pay_inputs.specs.Limits.{event_limit, HasGoodSchedules, KeepsLimits}
 use Rattle.pay_tables.specs.Records.{records_in}
 use Rattle.pay_tables.specs.Tables.{Table, cells_of}
 use Rattle.pay_tables.specs.Spelling.{SpellsTable, SpellsPast}
-use Rattle.pay_report.specs.Detail.{header_line, last_line, scenario_lines}
+use Rattle.pay_report.specs.Detail.{header_line, nodes_line, scenario_lines}
 use Rattle.pay_words.specs.Requests.{Asked, PastWords, RunWords, run, check_of, list_of, explain_of, request_of}
 use Rattle.pay_inputs.specs.Inputs.{script_limit, fixings_limit, table_limit}
 
@@ -37,7 +37,7 @@ pub data KnowsPast (files : Files) : Option PastWords → Option Past → Type 0
 -- The words ask for a run of a script file and a scenario file, perhaps with past fixings. The bytes of the first spell tokens that spell a script
 -- none of whose schedules is bad, and no two of whose events have one date. The records of the second spell a table, and those of the fixings file,
 -- where one is given, spell past fixings. The text has gained a header, for each row of the table in order the lines of what the script's events
--- mean under the past fixings and those of that row, from no variables, and a last line.
+-- mean under the past fixings and those of that row, from no variables, and a last line with a count.
 pub record PaysAsMeant (words : List (List ℕ)) (files : Files) (before after : List ℕ) : Type 0 where
   pub asked : RunWords
   pub asks : request_of words ≡ Some (run asked)
@@ -55,9 +55,10 @@ pub record PaysAsMeant (words : List (List ℕ)) (files : Files) (before after :
   pub knows_past : KnowsPast files asked.past past
   pub table : Table
   pub spells_table : SpellsTable (records_in table_bytes) table
+  pub nodes : ℕ
   pub text : after ≡ before ++ (header_line
       ++ (flat_map (λ row. scenario_lines row.label (meaning (events_of script) no_variables (fixings_of past (cells_of table row)))) table.rows
-      ++ last_line))
+      ++ nodes_line nodes))
 
 -- The words ask for a run of files none of which is too long. The bytes of the script file spell tokens none of which passes a limit, and which
 -- spell a script none of whose schedules is bad, that keeps its limits, and no two of whose events have one date. The records of the scenario file

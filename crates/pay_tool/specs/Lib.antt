@@ -1,4 +1,5 @@
 pub mod ScriptTexts
+pub mod RunTexts
 pub mod Answers
 pub mod Columns
 pub mod Exits

@@ -26,6 +26,7 @@ event_line event = day_text event.date ++ (44 ∷ (decimal event.period ++ (44 �
 abbrev pub events_text : Trade → List ℕ
 events_text trade = codes "date,period,days\n" ++ flat_map event_line trade.events
 
--- what is said of the events in order of date: for each one its line, and then a line for each variable with all raws that it can have after the event
+-- what is said of the events in order of date: for each one its line, its simplified steps, and a line for each variable with all raws that it can
+-- have after the event
 abbrev pub explained_text : Trade → List ℕ
 explained_text trade = explain_text trade.variables trade.events no_facts

@@ -7,8 +7,8 @@ use Rattle.pay_inputs.specs.declared.refusal.Refusal.TheVariants.{TooLong}
 use Rattle.pay_meaning.specs.Meaning.{Cells, Past}
 use Rattle.pay_tables.specs.Tables.{Table}
 use Rattle.pay_inputs.specs.Trades.{Trade}
+use Rattle.pay_tool.specs.RunTexts.{run_text}
 use Rattle.pay_tool.specs.ScriptTexts.{check_text, events_text, explained_text}
-use Rattle.pay_report.specs.Detail.{report_text}
 use Rattle.pay_words.specs.Requests.{PastWords, RunWords, run, check_of, list_of, explain_of, request_of}
 use Rattle.pay_inputs.specs.Inputs.{Input, not_there, bad, good, script_limit, fixings_limit, table_limit}
 use Rattle.pay_tool.specs.Answers.{Answer, no_request, absent, refused, report, answer_of}
@@ -69,7 +69,7 @@ pub data IsAnswer (words : List (List ℕ)) (files : Files) : Answer → Type 0 
       → IsAnswer words files (refused asked.scenarios refusal)
   accepted : (asked : RunWords) (trade : Trade) (past : Option Past) (table : Table) → request_of words ≡ Some (run asked)
       → IsScriptInput files asked.script (good trade) → GivesPast files asked.past past → IsTableInput files asked.scenarios (good table)
-      → IsAnswer words files (report (report_text trade.events past table))
+      → IsAnswer words files (report (run_text trade.events past table))
   about_absent : (script : List ℕ) (text : Trade → List ℕ) → AsksAbout words script text → IsScriptInput files script not_there
       → IsAnswer words files (absent script)
   about_refused : (script : List ℕ) (text : Trade → List ℕ) (refusal : Refusal) → AsksAbout words script text

@@ -1,13 +1,16 @@
 //! A program over past fixings and the columns of a table, and its runs, one scenario after the other.
 
-ghost use Rattle.std.specs.Prelude.{◌≡◌, IfOk, IsTrue, OnOk, length, map};
+ghost use Rattle.std.specs.Prelude.{◌≡◌, ◌≤◌, false, All, IfOk, IsTrue, OnOk, length, map};
 ghost use Rattle.std.specs.List.{zip};
 ghost use Rattle.pay_compile.specs.Compiling.{HasOwnLegs};
+ghost use Rattle.pay_facts.specs.Facts.{no_facts};
 ghost use Rattle.pay_machine.specs.Outcomes.{IsOutcome};
 ghost use Rattle.pay_meaning.specs.Meaning.{fixings_of, meaning, no_variables};
 ghost use Rattle.pay_passes.specs.Trades.{IsGood, spelled_trade};
-ghost use Rattle.pay_tables.specs.Tables.{are_distinct};
-ghost use Rattle.pay_tool.specs.Aligned.{AreFor, cells_from, RunsMean};
+ghost use Rattle.pay_runs.specs.Counting.{node_count};
+ghost use Rattle.pay_simplified.specs.Simplified.{simplified};
+ghost use Rattle.pay_tables.specs.Tables.{are_distinct, IsCell};
+ghost use Rattle.pay_tool.specs.Aligned.{AreFor, AreGoodIfGiven, cells_from, RunsMean};
 ghost use Rattle.pay_tool.specs.Columns.{source_of};
 ghost use Rattle.pay_inputs.specs.PastViews.{lent_past};
 
@@ -98,19 +101,24 @@ impl<'a> AlignedProgram<'a> {
         })
     }
 
-    /// Runs the program on a row with these cells, one for each date: `runs` then has the outcome.
+    /// Runs the program on a row with these cells, one for each date: `runs` then has the outcome, with the count of evaluated nodes.
     ///
     /// # Errors
     ///
     /// [`NoMemory`] where there was no memory for the cells of the program.
     pub fn run(&self, cells: &[Option<Fixed>], runs: &mut Runs) -> Result<(), NoMemory>
         requires full { length cells.now ≡ length self.now.dates.now }
+        requires good_past { AreGoodIfGiven (lent_past self.now.past) }
+        requires fixings { All IsCell cells.now }
         requires means { RunsMean self.now.trade.now self.now.program }
         requires prepared { AreFor runs.old self.now.program }
         ensures prepared { AreFor runs.new self.now.program }
         ensures outcome { OnOk result (IsOutcome self.now.trade.now.names.items self.now.trade.now.legs.items
             (meaning (spelled_trade self.now.trade.now) no_variables (fixings_of (lent_past self.now.past) (zip self.now.dates.now cells.now)))
             runs.new.outcome) }
+        ensures nodes { OnOk result (runs.new.outcome.nodes ≡ node_count false (simplified (spelled_trade self.now.trade.now) no_facts) no_variables
+            (fixings_of (lent_past self.now.past) (zip self.now.dates.now cells.now))) }
+        ensures few_nodes { OnOk result (runs.new.outcome.nodes ≤ 262_144) }
     {
         fill_row(self.sources.as_slice(), cells, &mut runs.row)?;
         runs.machine

@@ -1,4 +1,4 @@
-//! The command `explain`, which answers what every variable of a script can hold.
+//! The command `explain`, which answers what is left of a script, and what every variable can hold.
 
 ghost use Rattle.std.specs.Prelude.{◌≡◌, ◌+◌, ◌≤◌, Some, OnOk, IsErrOf, length};
 ghost use Rattle.pay_edge.specs.Edge.{AppendsFront, OnlyRead, Rose, appended};
@@ -15,14 +15,15 @@ use crate::exit::{Exit, exit_at};
 use crate::put::{PutStop, put_piece};
 use pay_analysis::Facts;
 use pay_edge::{Depot, Sink};
+use pay_explain::laws::explained_by_name;
 use pay_explain::{explain_event, fresh_facts};
 use pay_inputs::read_script;
 use pay_passes::Trade;
 use pay_words::FileName;
 use std::alloc::Global;
 
-/// Puts what the variables of the script file `script` can hold after each of its events: it is fetched and checked, and then the text is put, one
-/// piece an event.
+/// Puts what is left of each event of the script file `script`, and what the variables can hold after it: the file is fetched and checked, and then
+/// the text is put, one piece an event.
 pub fn explain<D: Depot, O: Sink>(
     alloc: Global,
     script: FileName,
@@ -54,6 +55,7 @@ fn put_explained<O: Sink>(alloc: Global, found: &Trade, out: &mut O) -> Result<(
     ensures front { AppendsFront (O.text out.old) (O.text out.new) (explained_text (trade found.now)) }
     ensures failed { IsErrOf result PutStop.Failed → Rose (O.faults out.old) (O.faults out.new) }
 {
+    explained_by_name();
     let mut facts = fresh_facts(alloc, found)?;
     put_events(alloc, found, &mut facts, out)
 }
@@ -68,8 +70,8 @@ fn put_events<O: Sink>(
     requires few { length found.now.events.items ≤ 4096 }
     requires known { AreKnown found.now.names.items facts.now.domains.items }
     ensures ok { OnOk result (O.text out.new
-        ≡ appended (O.text out.old) (explain_trees found.now.names.items (trees_of found.now) facts.old.domains.items)) }
-    ensures front { AppendsFront (O.text out.old) (O.text out.new) (explain_trees found.now.names.items (trees_of found.now) facts.old.domains.items) }
+        ≡ appended (O.text out.old) (explain_trees found.now.names.items found.now.legs.items (trees_of found.now) facts.old.domains.items)) }
+    ensures front { AppendsFront (O.text out.old) (O.text out.new) (explain_trees found.now.names.items found.now.legs.items (trees_of found.now) facts.old.domains.items) }
     ensures failed { IsErrOf result PutStop.Failed → Rose (O.faults out.old) (O.faults out.new) }
     ensures never_falls { O.faults out.old ≤ O.faults out.new }
 {

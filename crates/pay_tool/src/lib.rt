@@ -7,7 +7,7 @@
 //!
 //! # Example
 //!
-//! Here `out` receives the lines `scenario,date,leg,amount`, `up,2024-06-28,opt,12.5` and `#nodes,,,`.
+//! Here `out` receives the lines `scenario,date,leg,amount`, `up,2024-06-28,opt,12.5` and `#nodes,6,,`.
 //!
 //! ```text
 //! let mut depot = MemoryDepot::new(alloc);

@@ -4,13 +4,14 @@ ghost use Rattle.std.specs.Prelude.{◌≡◌, ◌+◌, ◌≤◌, Some, IfOk, I
 ghost use Rattle.std.specs.Option.{option_map};
 ghost use Rattle.pay_edge.specs.Edge.{OnlyRead};
 ghost use Rattle.pay_passes.specs.Trades as trades;
-ghost use Rattle.pay_report.specs.Detail.{report_text};
 ghost use Rattle.pay_tables.specs.Tables.{IsGood};
 ghost use Rattle.pay_tables.specs.Views.{table};
+ghost use Rattle.pay_tool.specs.Aligned.{AreGoodIfGiven};
 ghost use Rattle.pay_tool.specs.Answers.{answer_to, report};
 ghost use Rattle.pay_tool.specs.Causes.{Caused, ends_of, IsEarly, SameBeyond, names_fetched, past_inputs};
 ghost use Rattle.pay_tool.specs.Fetches.{most_fetches};
 ghost use Rattle.pay_inputs.specs.PastViews.{known_past};
+ghost use Rattle.pay_tool.specs.RunTexts.{run_text};
 ghost use Rattle.pay_tool.specs.Reading.{seen_of, HaveRead, HasRead, ArePastAsked, StopsAtPast, IsCausedEarly};
 ghost use Rattle.pay_words.specs.Requests as asked;
 ghost use Rattle.pay_words.specs.RequestViews.{past_words, run_words};
@@ -69,8 +70,9 @@ fn read_inputs<D: Depot>(alloc: Global, words: RunWords, depot: &mut D) -> Resul
     ensures inputs { HasRead (asked.run (run_words words)) (seen_of D.files D.read_faults D.fetches depot.old)
         (seen_of D.files D.read_faults D.fetches depot.new) }
     ensures accepted { IfOk result (λ inputs. IfSome (D.files depot.old) (λ files.
-        answer_to (asked.run (run_words words)) files ≡ report (report_text (trade inputs.found).events (known_past inputs.past) (table inputs.table)))) }
+        answer_to (asked.run (run_words words)) files ≡ report (run_text (trade inputs.found).events (known_past inputs.past) (table inputs.table)))) }
     ensures good_trade { IfOk result (λ inputs. trades.IsGood inputs.found) }
+    ensures good_past { IfOk result (λ inputs. AreGoodIfGiven (known_past inputs.past)) }
     ensures good { IfOk result (λ inputs. IsGood (table inputs.table)) }
     ensures stopped { IfErr result (IsCausedEarly (asked.run (run_words words)) (seen_of D.files D.read_faults D.fetches depot.old)
         (seen_of D.files D.read_faults D.fetches depot.new)) }
@@ -102,6 +104,7 @@ fn read_given_past<D: Depot>(
     ensures inputs { HaveRead (past_inputs (option_map past_words past)) (seen_of D.files D.read_faults D.fetches depot.old)
         (seen_of D.files D.read_faults D.fetches depot.new) }
     ensures accepted { IfOk result (λ found. IfSome (D.files depot.old) (λ files. ArePastAsked files (option_map past_words past) (known_past found))) }
+    ensures good { IfOk result (λ found. AreGoodIfGiven (known_past found)) }
     ensures stopped { IfErr result (StopsAtPast (option_map past_words past) (seen_of D.files D.read_faults D.fetches depot.old)
         (seen_of D.files D.read_faults D.fetches depot.new)) }
 {

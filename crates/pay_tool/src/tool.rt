@@ -25,14 +25,16 @@ use std::alloc::Global;
 ///
 /// `run SCRIPT SCENARIOS`, perhaps with `--fixings FILE --asof DATE` after it, fetches and checks the script file (at most 1,048,576
 /// bytes), then the fixings file, if one is given (16,777,216), and then the scenario file (67,108,864). Then it puts a header, for each
-/// scenario the payments that the script makes in it, and a last line. At a date that isn't after DATE the fixing is that of the fixings
-/// file, and there is none where that file has none; at each date after it the scenario's. Nothing is put before all files are accepted.
+/// scenario the payments that the script makes in it, and a last line with how many nodes of the simplified script were evaluated. At a
+/// date that isn't after DATE the fixing is that of the fixings file, and there is none where that file has none; at each date after it
+/// the scenario's. Nothing is put before all files are accepted.
 ///
 /// `check SCRIPT` fetches and checks the script file, and then puts three lines in one piece: how many events, variables and
 /// legs it has, as `events 5`, `variables 2` and `legs 1`. `events SCRIPT` does the same, and puts the script's events in order
 /// of date in one piece: a line `date,period,days`, and for each event a line as `2024-02-29,1,29`. `explain SCRIPT` fetches and checks
-/// the script file, and then puts one piece for each event in order of date: a line as `event 2024-02-29 period 1 days 29`, and for each
-/// variable, by its first appearance, a line as `  domain x: 0 | 1 to 2` with all raws that it can have after the event in any run.
+/// the script file, and then puts one piece for each event in order of date: a line as `event 2024-02-29 period 1 days 29`, the steps that
+/// are left of it in the simplified script, and for each variable, by its first appearance, a line as `  domain x: 0 | 1 to 2` with raws
+/// among which are all that it can have after the event in any run.
 ///
 /// The status is 0 where the answer was put whole, 2 exactly where the words are no request, 3 where a file is refused, 4
 /// where a file is not there or a fetch failed, 5 where a put failed, and 6 where there was no memory. No file is

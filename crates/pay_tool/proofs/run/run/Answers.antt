@@ -19,5 +19,10 @@ returns-in-Ok-put_report-clause-caused g c =
     let same = lent_known _ c.in-Ok.inputs.past c.as_ref.ensures.value in
     (refl, report_given (run (run_words c.args.words)) _ _ _ _ c.in-Ok.ensures.accepted (rw same at c.in-Ok-put_report.ensures.ok))
 
+pub put_report-requires : goal.put_report-requires
+put_report-requires g c =
+    let same = lent_known _ c.in-Ok.inputs.past c.as_ref.ensures.value in
+    record { good_trade = c.in-Ok.ensures.good_trade; good_past = rw same c.in-Ok.ensures.good_past; good = c.in-Ok.ensures.good }
+
 pub returns-in-Err-clause-caused : goal.returns-in-Err-clause-caused
 returns-in-Err-clause-caused g c = c.in-Err.ensures.stopped (g.O.Sink.text c.args.out.now) (g.O.Sink.faults c.args.out.now)
