@@ -7,8 +7,8 @@ use Rattle.pay_tool.specs.declared.exit.Exit.TheVariants.{Done, NotRequest, Refu
 use Rattle.pay_words.specs.Requests.{Asked}
 use Rattle.pay_tool.specs.Answers.{Answer, no_request, absent, refused, report, answer_to, answer_of}
 use Rattle.pay_tool.specs.Causes.{IsGiven, IsReport, IsTextBegun, IsEarly, Ends, Caused}
-use Rattle.pay_tool.specs.declared.put.PutStop.{PutStop}
-use Rattle.pay_tool.specs.declared.put.PutStop.TheVariants as put
+use Rattle.pay_scenarios.specs.declared.put.PutStop.{PutStop}
+use Rattle.pay_scenarios.specs.declared.put.PutStop.TheVariants as put
 use Rattle.pay_tool.specs.Exits.{exit_of_put, status_of}
 use Rattle.pay_tool.specs.Lines.{NamesInput, Tells, nothing, of_words, of_refusal, of_read, of_write, of_memory, line_of}
 

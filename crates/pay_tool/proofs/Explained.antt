@@ -10,9 +10,9 @@ use Rattle.pay_passes.specs.declared.trade.Trade.{Trade}
 use Rattle.pay_passes.specs.Trades.{IsGood, trees_of}
 use Rattle.pay_tree.specs.Owned.{EventTree}
 use Rattle.pay_tree.specs.OwnedViews.{event_tree}
-use Rattle.pay_tool.specs.Puts.{HasPut}
+use Rattle.pay_scenarios.specs.Puts.{HasPut}
 use Rattle.pay_tool.specs.ScriptTexts.{explained_text}
-use Rattle.pay_tool.proofs.Pieces.{put_more, put_part}
+use Rattle.pay_scenarios.proofs.Pieces.{put_more, put_part}
 
 -- a good trade has few events
 pub few_events : (found : Trade) → IsGood found → length found.events.items ≤ 4096

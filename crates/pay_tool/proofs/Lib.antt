@@ -1,13 +1,9 @@
-pub mod Pieces
 pub mod Paid
 pub mod Ended
 pub mod Inputs
 pub mod OwnTermLemmas
-pub mod FixingLimits
-pub mod RunLines
 pub mod PastOrder
 pub mod RunInputs
 pub mod OneAnswer
-pub mod ColumnLemmas
 pub mod Payable
 pub mod Explained

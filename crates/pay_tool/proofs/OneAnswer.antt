@@ -5,7 +5,7 @@ use Rattle.std.specs.Prelude.{◌↔◌}
 use Rattle.std.specs.FinMap.{get}
 use Rattle.pay_edge.specs.Edge.{Files, Long, Bytes, whole_from}
 use Rattle.pay_meaning.specs.Meaning.{Cells, Past}
-use Rattle.pay_tool.specs.RunTexts.{run_text}
+use Rattle.pay_scenarios.specs.RunTexts.{run_text}
 use Rattle.pay_tables.specs.Tables.{Table}
 use Rattle.pay_inputs.specs.declared.refusal.Refusal.{Refusal}
 use Rattle.pay_inputs.specs.Trades.{Trade}

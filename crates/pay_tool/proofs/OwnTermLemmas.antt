@@ -18,7 +18,7 @@ use Rattle.pay_inputs.specs.Trades.{Trade}
 use Rattle.pay_explain.proofs.TermLaws.{explained_at_terms}
 use Rattle.pay_facts.specs.Facts.{no_facts}
 use Rattle.pay_simplified.proofs.TermLemmas.{terms_keep_simplified}
-use Rattle.pay_tool.specs.RunTexts.{nodes_in, row_nodes, sum_over, run_text}
+use Rattle.pay_scenarios.specs.RunTexts.{nodes_in, row_nodes, sum_over, run_text}
 use Rattle.pay_tool.specs.ScriptTexts.{check_text, event_line, events_text, explained_text}
 use Rattle.pay_inputs.specs.Inputs.{Input, not_there, bad, good, script_of}
 use Rattle.pay_tool.specs.Answers.{Answer, report, answer_by, answer_to}

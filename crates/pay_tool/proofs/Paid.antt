@@ -3,7 +3,7 @@ use Rattle.std.proofs.Common.{◌≡◌, ℕ, ◌≤◌, List, ◌++◌, length,
 use Rattle.pay_edge.specs.Edge.{Files}
 use Rattle.pay_meaning.specs.Meaning.{Past}
 use Rattle.pay_report.specs.Detail.{report_text}
-use Rattle.pay_tool.specs.RunTexts.{nodes_in, run_text}
+use Rattle.pay_scenarios.specs.RunTexts.{nodes_in, run_text}
 use Rattle.pay_tables.specs.Tables.{Table}
 use Rattle.pay_inputs.specs.declared.refusal.Refusal.{Refusal}
 use Rattle.pay_inputs.specs.Trades.{Trade}

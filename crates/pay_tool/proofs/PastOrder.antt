@@ -18,7 +18,7 @@ use Rattle.pay_simplified.specs.Simplified.{simplified}
 use Rattle.pay_tables.specs.FixingsFile.{IsInOrder}
 use Rattle.pay_tables.specs.Tables.{Row, Table, cells_of}
 use Rattle.pay_tables.proofs.OrderLaws.{order-same}
-use Rattle.pay_tool.specs.RunTexts.{nodes_in, row_nodes, run_text, sum_over}
+use Rattle.pay_scenarios.specs.RunTexts.{nodes_in, row_nodes, run_text, sum_over}
 
 -- a run has the same fixing at each date
 fixing_same : (asof : Day) (cells ordered row : Cells) (date : Day) → IsInOrder cells ordered

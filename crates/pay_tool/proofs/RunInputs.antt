@@ -5,7 +5,7 @@ use Rattle.pay_dates.specs.declared.day.Day.{Day}
 use Rattle.pay_edge.specs.Edge.{Files}
 use Rattle.pay_meaning.specs.Language.{Event}
 use Rattle.pay_meaning.specs.Meaning.{Past}
-use Rattle.pay_tool.specs.RunTexts.{run_text}
+use Rattle.pay_scenarios.specs.RunTexts.{run_text}
 use Rattle.pay_tables.specs.Tables.{Table}
 use Rattle.pay_tool.specs.declared.exit.Exit.{Exit}
 use Rattle.pay_inputs.specs.declared.input.InputStop.{InputStop}

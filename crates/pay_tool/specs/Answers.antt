@@ -5,7 +5,7 @@ use Rattle.pay_meaning.specs.Meaning.{Past}
 use Rattle.pay_words.specs.Requests.{Asked, PastWords, run, check_of, list_of, explain_of}
 use Rattle.pay_inputs.specs.declared.refusal.Refusal.{Refusal}
 use Rattle.pay_inputs.specs.Inputs.{Input, not_there, bad, good, script_of, past_of, table_of}
-use Rattle.pay_tool.specs.RunTexts.{run_text}
+use Rattle.pay_scenarios.specs.RunTexts.{run_text}
 use Rattle.pay_tool.specs.ScriptTexts.{check_text, events_text, explained_text}
 
 -- The answer: the words are no request; or the first input that isn't accepted is this file, which isn't there;

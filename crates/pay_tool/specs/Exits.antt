@@ -4,8 +4,8 @@ use Rattle.pay_tool.specs.declared.exit.Exit.{Exit}
 use Rattle.pay_tool.specs.declared.exit.Exit.TheVariants.{Done, NotRequest, Refused, Unread, Unwritten, NoMemory}
 use Rattle.pay_inputs.specs.declared.input.InputStop.{InputStop}
 use Rattle.pay_inputs.specs.declared.input.InputStop.TheVariants as input
-use Rattle.pay_tool.specs.declared.put.PutStop.{PutStop}
-use Rattle.pay_tool.specs.declared.put.PutStop.TheVariants as put
+use Rattle.pay_scenarios.specs.declared.put.PutStop.{PutStop}
+use Rattle.pay_scenarios.specs.declared.put.PutStop.TheVariants as put
 
 -- the exit status
 abbrev pub status_of : Exit → ℕ

@@ -1,14 +1,9 @@
 pub mod ScriptTexts
-pub mod RunTexts
 pub mod Answers
-pub mod Columns
 pub mod Exits
 pub mod Causes
 pub mod Lines
-pub mod Puts
 pub mod Headline
 pub mod ToolLaws
 pub mod Fetches
 pub mod Reading
-pub mod RowLines
-pub mod Aligned

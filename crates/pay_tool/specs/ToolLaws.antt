@@ -7,7 +7,7 @@ use Rattle.pay_inputs.specs.declared.refusal.Refusal.TheVariants.{TooLong}
 use Rattle.pay_meaning.specs.Meaning.{Cells, Past}
 use Rattle.pay_tables.specs.Tables.{Table}
 use Rattle.pay_inputs.specs.Trades.{Trade}
-use Rattle.pay_tool.specs.RunTexts.{run_text}
+use Rattle.pay_scenarios.specs.RunTexts.{run_text}
 use Rattle.pay_tool.specs.ScriptTexts.{check_text, events_text, explained_text}
 use Rattle.pay_words.specs.Requests.{PastWords, RunWords, run, check_of, list_of, explain_of, request_of}
 use Rattle.pay_inputs.specs.Inputs.{Input, not_there, bad, good, script_limit, fixings_limit, table_limit}

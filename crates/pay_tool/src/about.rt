@@ -12,12 +12,12 @@ ghost use Rattle.pay_tool.specs.ScriptTexts as meant;
 ghost use Rattle.pay_inputs.specs.TradeViews.{trade};
 
 use crate::exit::{Exit, exit_at};
-use crate::put::{PutStop, put_piece};
 use crate::text::{write_count, write_date, write_text};
 use pay_edge::{Depot, Sink};
 use pay_fixed::NoMemory;
 use pay_inputs::read_script;
 use pay_passes::Trade;
+use pay_scenarios::{PutStop, put_piece};
 use pay_tree::Event;
 use pay_words::FileName;
 use std::alloc::Global;

@@ -3,8 +3,8 @@
 ghost use Rattle.std.specs.Prelude.{◌≡◌};
 ghost use Rattle.pay_tool.specs.Exits.{exit_at, status_of};
 
-use crate::put::PutStop;
 use pay_inputs::{InputStop, Refusal};
+use pay_scenarios::PutStop;
 use pay_words::FileName;
 
 /// How the tool ended.

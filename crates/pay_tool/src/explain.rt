@@ -12,13 +12,13 @@ ghost use Rattle.pay_tool.specs.ScriptTexts.{explained_text};
 ghost use Rattle.pay_words.specs.Requests as asked;
 
 use crate::exit::{Exit, exit_at};
-use crate::put::{PutStop, put_piece};
 use pay_analysis::Facts;
 use pay_edge::{Depot, Sink};
 use pay_explain::laws::explained_by_name;
 use pay_explain::{explain_event, fresh_facts};
 use pay_inputs::read_script;
 use pay_passes::Trade;
+use pay_scenarios::{PutStop, put_piece};
 use pay_words::FileName;
 use std::alloc::Global;
 

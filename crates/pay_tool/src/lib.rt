@@ -21,13 +21,10 @@
 #![tactic(auto)]
 
 mod about;
-mod aligned;
-mod columns;
 mod exit;
 mod explain;
 pub mod laws;
 mod line;
-mod put;
 mod run;
 mod text;
 mod tool;

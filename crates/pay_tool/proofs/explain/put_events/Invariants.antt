@@ -3,7 +3,7 @@ use Rattle.std.proofs.Common.{◌≤◌, drop}
 use Rattle.pay_explain.specs.Explaining.{explain_trees}
 use Rattle.pay_explain.specs.Known.{AreKnown}
 use Rattle.pay_passes.specs.Trades.{trees_of}
-use Rattle.pay_tool.specs.Puts.{HasPut}
+use Rattle.pay_scenarios.specs.Puts.{HasPut}
 use Rattle.pay_tool.proofs.explain.put_events.Given as goal
 
 abbrev pub invariant-loop-at : goal.invariant-loop-at

@@ -1,0 +1,4 @@
+pub mod Pieces
+pub mod FixingLimits
+pub mod RunLines
+pub mod ColumnLemmas

@@ -1,0 +1,84 @@
+-- A run of an aligned program gives what its events mean under the fixings of a row.
+use Rattle.std.proofs.Common.{◌≡◌, ℕ, zero, suc, ◌<◌, nat_lt, Bool, true, false, inl, inr, ℤ, sym, List, [], ◌∷◌, length, map}
+use Rattle.std.proofs.Common.{Option, None, IsTrue, All, refl, ap, ◌∙◌, arith}
+use Rattle.std.specs.List.{list_all, zip}
+use Rattle.std.proofs.lemmas.List.{length-map}
+use Rattle.std.proofs.lemmas.Bool.{and_parts, cases_eq, ne_eqb, ltb-true}
+use Rattle.pay_dates.specs.declared.day.Day.{Day}
+use Rattle.pay_meaning.specs.Language.{Event}
+use Rattle.pay_meaning.specs.Meaning.{Past, fixing_at, fixings_of, meaning, no_variables}
+use Rattle.pay_tables.specs.Tables.{are_distinct}
+use Rattle.pay_code.specs.Bounds.{legs_in, AreOnLegs}
+use Rattle.pay_code.specs.Filled.{is_among}
+use Rattle.pay_code.specs.Programs.{Compiled, run}
+use Rattle.pay_compile.specs.Compiling.{events_until, CountsNodes, HasOwnLegs, MeansDirectly}
+use Rattle.pay_facts.specs.Holding.{AreFixings}
+use Rattle.pay_runs.specs.Counting.{node_count}
+use Rattle.pay_machine.specs.declared.outcome.Payment.{Payment}
+use Rattle.pay_machine.specs.Outcomes.{Given, IsOutcome}
+use Rattle.pay_machine.specs.Runs.{IsGiven, IsBounded}
+use Rattle.pay_machine.proofs.NamedOutcomes.{numbers_are_names}
+use Rattle.pay_scenarios.specs.Aligned.{cells_from}
+use Rattle.pay_scenarios.specs.Columns.{source_of}
+use Rattle.pay_scenarios.specs.declared.columns.FixingSource.{FixingSource}
+use Rattle.pay_scenarios.proofs.ColumnLemmas.{source-fixing}
+
+-- the cells of these dates are the fixings there
+row_cells : (past : Option Past) (dates : List Day) (cells : List (Option ℤ)) (own : List Day) → IsTrue (are_distinct dates)
+    → length cells ≡ length dates
+    → cells_from (map (λ date. source_of past dates date) own) cells ≡ map (fixing_at (fixings_of past (zip dates cells))) own
+row_cells past dates cells [] distinct full = refl
+row_cells past dates cells (date ∷ own) distinct full =
+    λ i. source-fixing past dates cells date distinct full i ∷ row_cells past dates cells own distinct full i
+
+-- what holds of each of these holds of one that is among them
+holds_among : (p : ℕ → Bool) (legs : List ℕ) (leg : ℕ) → list_all p legs ≡ true → is_among leg legs ≡ true → p leg ≡ true
+holds_among p [] leg all among = absurd (let found : false ≡ true = among in cc)
+holds_among p (first ∷ legs) leg all among =
+    let parts = and_parts (p first) (list_all p legs) all in
+    elim (cases_eq leg first) [
+      | inl same ↦ ap p same ∙ parts.0
+      | inr differ ↦ holds_among p legs leg parts.1 (rw (ne_eqb leg first differ) at among)
+    ]
+
+-- payments on these legs are on legs below a bound that each of these is below
+legs_below : (legs : List ℕ) (bound : ℕ) (payments : List Payment) → list_all (λ leg. nat_lt leg bound) legs ≡ true
+    → AreOnLegs legs (map (λ p. record { date = p.date; leg = p.leg; amount = p.amount }) payments) → All (λ p. p.leg < bound) payments
+legs_below legs bound [] all on i x h = absurd (omega arith)
+legs_below legs bound (payment ∷ payments) all on zero x h = ltb-true payment.leg bound (holds_among (λ leg. nat_lt leg bound) legs payment.leg all on.0)
+legs_below legs bound (payment ∷ payments) all on (suc i) x h = legs_below legs bound payments all on.1 i x (omega arith)
+
+-- without a last date all events are kept
+pub all_kept : (events : List Event) → events_until None events ≡ events
+all_kept [] = refl
+all_kept (event ∷ events) = λ i. event ∷ all_kept events i
+
+-- the row of a run has a cell for each date
+pub full_row : (sources : List FixingSource) (cells row : List (Option ℤ)) (past : Option Past) (dates own : List Day)
+    → sources ≡ map (λ date. source_of past dates date) own → row ≡ cells_from sources cells → length row ≡ length own
+full_row sources cells row past dates own aligned filled =
+    rw (filled, aligned) (length-map (map (λ date. source_of past dates date) own) _ ∙ length-map own _)
+
+-- the outcome of a run is that of what the events mean
+pub run_outcome : (names legs : List (List ℕ)) (events : List Event) (program : Compiled) (past : Option Past) (dates : List Day)
+    (cells row : List (Option ℤ)) (sources : List FixingSource) (given : Given)
+    → sources ≡ map (λ date. source_of past dates date) program.dates → row ≡ cells_from sources cells → IsTrue (are_distinct dates)
+    → length cells ≡ length dates → AreFixings (fixings_of past (zip dates cells)) → MeansDirectly names legs events program
+    → HasOwnLegs (length legs) program → IsGiven (run program row) given
+    → IsBounded program given → IsOutcome names legs (meaning events no_variables (fixings_of past (zip dates cells))) given
+run_outcome names legs events program past dates cells row sources given aligned filled distinct full fixed means own is bounded =
+    let same : row ≡ map (fixing_at (fixings_of past (zip dates cells))) program.dates =
+    filled ∙ ap (λ (xs : List FixingSource). cells_from xs cells) aligned ∙ row_cells past dates cells program.dates distinct full in
+    numbers_are_names names legs (run program row) (meaning events no_variables (fixings_of past (zip dates cells))) given is
+    (rw same (means (fixings_of past (zip dates cells)) fixed)) (legs_below (legs_in program.code) (length legs) given.payments own bounded.legs)
+
+-- the run evaluates as many nodes as a run of these events
+pub run_nodes : (events : List Event) (program : Compiled) (past : Option Past) (dates : List Day)
+    (cells row : List (Option ℤ)) (sources : List FixingSource) (given : Given)
+    → sources ≡ map (λ date. source_of past dates date) program.dates → row ≡ cells_from sources cells → IsTrue (are_distinct dates)
+    → length cells ≡ length dates → CountsNodes events program → IsGiven (run program row) given
+    → given.nodes ≡ node_count false events no_variables (fixings_of past (zip dates cells))
+run_nodes events program past dates cells row sources given aligned filled distinct full counts is =
+    let same : row ≡ map (fixing_at (fixings_of past (zip dates cells))) program.dates =
+    filled ∙ ap (λ (xs : List FixingSource). cells_from xs cells) aligned ∙ row_cells past dates cells program.dates distinct full in
+    is.nodes ∙ ap (λ (cells : List (Option ℤ)). (run program cells).nodes) same ∙ counts (fixings_of past (zip dates cells))

@@ -1,0 +1,5 @@
+pub mod RunTexts
+pub mod Columns
+pub mod Puts
+pub mod RowLines
+pub mod Aligned
