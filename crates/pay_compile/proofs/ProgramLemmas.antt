@@ -25,7 +25,8 @@ use Rattle.pay_code.proofs.CodeLaw.{code_means}
 use Rattle.pay_simplified.specs.Simplified.{simplified}
 use Rattle.pay_compile.specs.CompileLaws.{PreparedIsSimplified}
 use Rattle.pay_compile.specs.Compiling.{events_until, dates_of, RunMeans, MeansDirectly, CountsNodes, HasOwnLegs}
-use Rattle.pay_compile.specs.Prepared.{prepared, prepared_from, after_prepared, kept_until, no_values, zero_domains}
+use Rattle.pay_compile.specs.Prepared.{prepared, prepared_from, kept_until, no_values, zero_domains}
+use Rattle.pay_prune.specs.Simplifying.{after_simplified}
 use Rattle.pay_compile.proofs.Lowerable.{can_be_lowered, names_apart, own_legs, few_pays, keeps_meaning, kept_are_spelled, fresh_stands}
 
 -- a program is that of a trade up to a date: it stands for its prepared events, its variables start from 0, and its runs read no smoothings
@@ -57,7 +58,7 @@ events_of until trade = events_until until (spelled_trade trade)
 same_dates : (names legs : List (List ℕ)) (events : List EventTree) (domains : SlotDomains)
     → code.dates_of (prepared_from events domains) ≡ dates_of (map (spelled_event names legs) events)
 same_dates names legs [] domains = refl
-same_dates names legs (event ∷ rest) domains = ap (λ dates. event.date ∷ dates) (same_dates names legs rest (after_prepared event domains))
+same_dates names legs (event ∷ rest) domains = ap (λ dates. event.date ∷ dates) (same_dates names legs rest (after_simplified event domains))
 
 -- the dates of the program are those of the trade's events
 pub program_dates : (until : Option Day) (trade : Trade) (program : Compiled) → IsProgramOf until trade program

@@ -1,12 +1,12 @@
 -- The events that a program has: those of a trade up to a date, simplified by what is known before a run, with their choices filled in.
-use Rattle.std.specs.Prelude.{ℕ, ℤ, pos, false, List, map, Option}
+use Rattle.std.specs.Prelude.{ℕ, ℤ, pos, List, map, Option}
 use Rattle.std.specs.List.{filter}
 use Rattle.pay_dates.specs.declared.day.Day.{Day}
 use Rattle.pay_domains.specs.Pieces.{point}
-use Rattle.pay_facts.specs.SlotFacts.{SlotDomains, after_steps}
+use Rattle.pay_facts.specs.SlotFacts.{SlotDomains}
 use Rattle.pay_passes.specs.declared.trade.Trade.{Trade}
 use Rattle.pay_passes.specs.Trades.{trees_of}
-use Rattle.pay_simplified.specs.Pruning.{filled_event, pruned_event, pruned}
+use Rattle.pay_simplified.specs.Pruning.{filled_event, pruned}
 use Rattle.pay_tree.specs.Owned.{EventTree}
 use Rattle.pay_compile.specs.Compiling.{is_until}
 
@@ -17,14 +17,6 @@ kept_until until events = filter (λ event. is_until until event.date) events
 -- events with their choices filled in, pruned from these raws of the variables, and filled in again, since less may be assigned then
 abbrev pub prepared_from : List EventTree → SlotDomains → List EventTree
 prepared_from events domains = map filled_event (pruned (map filled_event events) domains)
-
--- the same of one event
-abbrev pub prepared_event : EventTree → SlotDomains → EventTree
-prepared_event event domains = filled_event (pruned_event (filled_event event) domains)
-
--- the raws of the variables after it
-abbrev pub after_prepared : EventTree → SlotDomains → SlotDomains
-after_prepared event domains = (after_steps (filled_event event).steps domains false).domains
 
 -- each variable is 0
 abbrev pub zero_domains : List (List ℕ) → SlotDomains

@@ -1,20 +1,19 @@
 //! What is said of an event.
 
 ghost use Rattle.std.specs.Prelude.{◌≡◌, false, ◌<◌, ◌+◌, ◌++◌, drop, length, IfOk, OnOk};
-ghost use Rattle.pay_analysis.specs.Walking.{AreAllRaws, AreDomains};
 ghost use Rattle.pay_passes.specs.Trades.{trees_of};
 ghost use Rattle.pay_tree.specs.OwnedViews.{event_tree};
-ghost use Rattle.pay_explain.specs.Explaining.{after_first, after_tree, explain_trees, first_text, left_steps, tree_text, zero_domains};
+ghost use Rattle.pay_explain.specs.Explaining.{after_first, after_tree, explain_trees, first_text, tree_text, zero_domains};
 ghost use Rattle.pay_explain.specs.Known.{AreKnown};
 
 use crate::text::{write_domain_lines, write_heading};
-use pay_analysis::{Facts, walk_event};
+use pay_analysis::Facts;
 use pay_domains::Domain;
 use pay_fixed::NoMemory;
-use pay_passes::{Trade, fill_changes};
+use pay_passes::Trade;
 use pay_print::print_steps;
-use pay_prune::prune_event;
-use pay_tree::{Event, Name, copy_event};
+use pay_prune::simplify_event;
+use pay_tree::{Event, Name};
 use std::alloc::Global;
 
 /// What is known before the first event of a trade: each variable is 0, and the fixing isn't known to be there.
@@ -71,7 +70,7 @@ pub fn explain_event(
 }
 
 /// What is said of an event, whose variables and legs have these names.
-#[tactic(auto, using(std::proofs::Common::append_assoc))]
+#[tactic(auto, using(std::proofs::Common::append_assoc, pay_simplified::proofs::FillingLemmas::filled_after))]
 fn explain(
     alloc: Global,
     names: &[Name],
@@ -84,29 +83,10 @@ fn explain(
     ensures after { OnOk result (facts.new.domains.items ≡ after_tree (event_tree event.now) facts.old.domains.items) }
     ensures known { OnOk result (AreKnown names.now facts.new.domains.items) }
 {
-    let left = simplified(alloc, event, facts)?;
+    let left = simplify_event(alloc, event, facts)?;
     let mut text = Vec::new(alloc);
     write_heading(alloc, event, &mut text)?;
     print_steps(alloc, names, legs, left.steps.as_slice(), b"  ", &mut text)?;
     write_domain_lines(names, facts.domains.as_slice(), &mut text)?;
     Ok(text)
-}
-
-/// What is left of an event, with the variables that each choice still changes; the facts before the event become those after it.
-#[tactic(auto, using(pay_simplified::proofs::FillingLemmas::filled_after, pay_simplified::proofs::FillingLemmas::steps_are_filled))]
-fn simplified(alloc: Global, event: &Event, facts: &mut Facts) -> Result<Event, NoMemory>
-    requires domains { AreDomains facts.now.domains.items }
-    requires limits { AreAllRaws facts.now.domains.items }
-    ensures left { IfOk result (λ left. (event_tree left).steps ≡ left_steps (event_tree event.now).steps facts.old.domains.items) }
-    ensures after { OnOk result (facts.new.domains.items ≡ after_tree (event_tree event.now) facts.old.domains.items) }
-    ensures count { OnOk result (length facts.new.domains.items ≡ length facts.old.domains.items) }
-    ensures domains { OnOk result (AreDomains facts.new.domains.items) }
-    ensures limits { OnOk result (AreAllRaws facts.new.domains.items) }
-{
-    let mut copy = copy_event(alloc, event)?;
-    fill_changes(alloc, &mut copy.steps)?;
-    let marks = walk_event(alloc, &copy, facts)?;
-    prune_event(&mut copy, &marks);
-    fill_changes(alloc, &mut copy.steps)?;
-    Ok(copy)
 }

@@ -1,12 +1,11 @@
 //! Tests of the calls on days and on schedules.
 //!
-//! The numbers follow from the calendar by counting from 1970-01-01. 1900-01-01 lies 70 years of 365 days and 17 leap
-//! days before it; 2000-02-29 lies 30 years, 7 leap days and 59 days after it; 2024-02-29 lies 54 years, 13 leap days and 59 days after it,
-//! 2024-06-28 another 120 days; and
-//! 2199-12-31 lies 229 years, 56 leap days and 364 days after it.
+//! The numbers follow from the calendar by counting from 1970-01-01. 1900-01-01 lies 70 years of 365 days and 17 leap days before it; 2000-02-29 lies
+//! 30 years, 7 leap days and 59 days after it; 2024-02-29 lies 54 years, 13 leap days and 59 days after it, 2024-06-28 another 120 days; and 2199-12-31
+//! lies 229 years, 56 leap days and 364 days after it.
 //!
-//! 1900-01-01 and 2024-01-01 are Mondays, and 2199-12-31 is a Tuesday. In 2024 the weekends that the schedules meet are 30 and 31 March, 1 and 2, 15 and 16, 29 and
-//! 30 June, and 31 August with 1 September. 1911-03-21 lies 11 years, 2 leap days and 79 days after 1900-01-01, which is 4,096 days.
+//! 1900-01-01 and 2024-01-01 are Mondays, and 2199-12-31 is a Tuesday. In 2024 the weekends that the schedules meet are 30 and 31 March, 1 and 2, 15 and
+//! 16, 29 and 30 June, and 31 August with 1 September. 1911-03-21 lies 11 years, 2 leap days and 79 days after 1900-01-01, which is 4,096 days.
 
 use pay_dates::{Day, Roll, RollFault, Rule, Unit, laws, read_day, roll_dates, write_day};
 use std::cmp::Ordering;

@@ -1,3 +1,4 @@
 mod PlaceLemmas
 mod FormLemmas
 mod PruneLaw
+pub mod SimplifyLemmas

@@ -1,3 +1,4 @@
 pub mod Pruned
+pub mod Simplifying
 pub mod PruneLaws
 pub mod PruningPromise

@@ -71,7 +71,8 @@ fn put_events<O: Sink>(
     requires known { AreKnown found.now.names.items facts.now.domains.items }
     ensures ok { OnOk result (O.text out.new
         ≡ appended (O.text out.old) (explain_trees found.now.names.items found.now.legs.items (trees_of found.now) facts.old.domains.items)) }
-    ensures front { AppendsFront (O.text out.old) (O.text out.new) (explain_trees found.now.names.items found.now.legs.items (trees_of found.now) facts.old.domains.items) }
+    ensures front { AppendsFront (O.text out.old) (O.text out.new)
+        (explain_trees found.now.names.items found.now.legs.items (trees_of found.now) facts.old.domains.items) }
     ensures failed { IsErrOf result PutStop.Failed → Rose (O.faults out.old) (O.faults out.new) }
     ensures never_falls { O.faults out.old ≤ O.faults out.new }
 {
