@@ -11,7 +11,7 @@ use Rattle.pay_meaning.specs.Language.{Operator, add, subtract, multiply, divide
 use Rattle.pay_meaning.specs.Language.{negative, absolute, binary, Comparison, less, at_most, greater, at_least, equals, differs, Condition, compare}
 use Rattle.pay_meaning.specs.Language.{negation, conjunction, disjunction, settled, sure, Statement, assign, pay, choose, group, Body, done, next}
 use Rattle.pay_meaning.specs.Language.{Terms, Item, plain, scheduled, Script}
-use Rattle.pay_tree.specs.Text.{unless_empty}
+use Rattle.pay_text.specs.Text.{unless_empty}
 use Rattle.pay_grammar.specs.Grammar.{sign_of, rule_tokens, schedule_tokens}
 use Rattle.pay_grammar.specs.TokenLimits.{is_open_bracket, is_closing_bracket}
 use Rattle.pay_canonical.proofs.CanonicalTokens.{binary_tokens, number_tokens, condition_tokens, statement_tokens, body_tokens, item_tokens}

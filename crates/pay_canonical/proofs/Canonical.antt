@@ -1,7 +1,7 @@
 -- The canonical text of a script spells it, within the limits of tokens.
 use Rattle.pay_lexer.proofs.LawLemmas.{read_kinds_are_spelled, spelled_tokens_are_read}
 use Rattle.pay_lexer.proofs.TokenForms.{token_forms}
-use Rattle.pay_tree.specs.Text.{script_text}
+use Rattle.pay_text.specs.Text.{script_text}
 use Rattle.pay_grammar.specs.TokenLimits.{kinds}
 use Rattle.pay_grammar.proofs.ScriptComplete.{spelled_script_is_read}
 use Rattle.pay_canonical.specs.CanonicalLaw.{CanonicalTextSpells, CanonicalTextReadsBack}

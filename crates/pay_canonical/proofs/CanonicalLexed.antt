@@ -31,8 +31,8 @@ use Rattle.pay_meaning.specs.Language.{negative, absolute, binary, Comparison, l
 use Rattle.pay_meaning.specs.Language.{compare, negation, conjunction, disjunction, settled, sure, Statement, assign, pay, choose, group, Body}
 use Rattle.pay_meaning.specs.Language.{done, next, Terms, Item, plain, scheduled, Script}
 use Rattle.pay_meaning.specs.Words.{is_digit, is_keyword, is_name, IsName, unit_word}
-use Rattle.pay_tree.specs.Text.{opening, between, number_text, comparing, condition_text, if_line, word_line, deeper, unless_empty, statement_text}
-use Rattle.pay_tree.specs.Text.{body_text, item_indent, date_line, rule_text, dates_text, step_text, schedule_line, item_text, script_text}
+use Rattle.pay_text.specs.Text.{opening, between, number_text, comparing, condition_text, if_line, word_line, deeper, unless_empty, statement_text}
+use Rattle.pay_text.specs.Text.{body_text, item_indent, date_line, rule_text, dates_text, step_text, schedule_line, item_text, script_text}
 use Rattle.pay_grammar.specs.Grammar.{sign_of, bracketed, rule_tokens, schedule_tokens}
 use Rattle.pay_canonical.proofs.CanonicalTokens.{IsWritten, IsWrittenCondition, IsWrittenStatement, IsWrittenBody, IsWrittenItem, IsWrittenScript}
 use Rattle.pay_canonical.proofs.CanonicalTokens.{signed_tokens, binary_tokens, number_tokens, condition_tokens, statement_tokens, body_tokens, item_tokens}

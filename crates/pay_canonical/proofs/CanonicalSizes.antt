@@ -20,7 +20,7 @@ use Rattle.pay_meaning.specs.Language.{Operator, add, subtract, multiply, divide
 use Rattle.pay_meaning.specs.Language.{negative, absolute, binary, Condition, compare, negation, conjunction, disjunction, settled, sure, Statement}
 use Rattle.pay_meaning.specs.Language.{assign, pay, choose, group, Body, done, next, Terms, Item, plain, scheduled, Script}
 use Rattle.pay_meaning.specs.Words.{is_lower_word, is_keyword, is_name, IsName, unit_word}
-use Rattle.pay_tree.specs.Text.{unless_empty}
+use Rattle.pay_text.specs.Text.{unless_empty}
 use Rattle.pay_grammar.specs.Grammar.{rule_tokens, schedule_tokens}
 use Rattle.pay_grammar.specs.TokenLimits.{kinds, is_too_large, first_too_large}
 use Rattle.pay_canonical.proofs.CanonicalTokens.{IsWritten, IsWrittenCondition, IsWrittenStatement, IsWrittenBody, IsWrittenItem, IsWrittenScript}

@@ -19,7 +19,7 @@ use Rattle.pay_meaning.specs.Language.{Operator, add, subtract, multiply, divide
 use Rattle.pay_meaning.specs.Language.{negative, absolute, binary, Note, bare, smoothed, Condition, compare, negation, conjunction, disjunction, settled}
 use Rattle.pay_meaning.specs.Language.{sure, Statement, assign, pay, choose, group, Body, done, next, Item, plain, scheduled, Script}
 use Rattle.pay_meaning.specs.Words.{IsName}
-use Rattle.pay_tree.specs.Text.{unless_empty}
+use Rattle.pay_text.specs.Text.{unless_empty}
 use Rattle.pay_grammar.specs.Grammar.{sign_of, bracketed, SpellsNumber, one_term, plus, minus, one_factor, times, over, SpellsFactor, one_atom, minus_sign}
 use Rattle.pay_grammar.specs.Grammar.{SpellsAtom, of_literal, of_variable, in_brackets, of_least, of_greatest, of_absolute, of_spot, of_period}
 use Rattle.pay_grammar.specs.Grammar.{of_days, two, SpellsCondition, one_conjunction, or_else, one_negation, and_also, SpellsNegation, not_sign}

@@ -7,7 +7,7 @@ use Rattle.pay_meaning.specs.Language.{Script}
 use Rattle.pay_grammar.specs.Grammar.{SpellsScript}
 use Rattle.pay_grammar.specs.Reading.{script_in}
 use Rattle.pay_grammar.specs.TokenLimits.{kinds, IsWithin}
-use Rattle.pay_tree.specs.Text.{script_text}
+use Rattle.pay_text.specs.Text.{script_text}
 
 -- the canonical text of a script spells tokens that spell the same script and pass no limit
 pub record IsCanonical (s : Script) : Type 0 where

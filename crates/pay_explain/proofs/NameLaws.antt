@@ -11,7 +11,7 @@ use Rattle.std.specs.Cmp.Lexicographic.{slice_cmp}
 use Rattle.pay_meaning.specs.Language.{Event}
 use Rattle.pay_meaning.specs.Meaning.{lookup, no_variables}
 use Rattle.pay_tree.specs.Owned.{StepsTree, EventTree, name_at, spelled_steps, spelled_event}
-use Rattle.pay_tree.specs.Text.{item_indent}
+use Rattle.pay_text.specs.Text.{item_indent}
 use Rattle.pay_domains.specs.Pieces.{Held, point}
 use Rattle.pay_facts.specs.Facts.{Domains, no_facts}
 use Rattle.pay_facts.specs.After.{after, after_event, after_events}

@@ -7,7 +7,7 @@ use Rattle.pay_tree.specs.declared.owned.TestKind.TheOpen.{TestKind-F}
 use Rattle.pay_tree.specs.declared.owned.TestKind.TheFolds.{fold_out-Test, fold_out-TestKind}
 use Rattle.pay_tree.specs.Owned.{TestTree, spelled_test, surely}
 use Rattle.pay_tree.specs.OwnedViews.{test_tree, test_kind_tree, test_kind_part, test_part}
-use Rattle.pay_tree.specs.Text.{condition_text, truth_text, word_line}
+use Rattle.pay_text.specs.Text.{condition_text, truth_text, word_line}
 use Rattle.pay_print.specs.StepText.{else_lines}
 use Rattle.pay_print.specs.TreeText.{has_any}
 

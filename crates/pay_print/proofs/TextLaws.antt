@@ -4,7 +4,7 @@ use Rattle.std.proofs.lemmas.Bool.{and_parts}
 use Rattle.std.proofs.lemmas.List.{map-append}
 use Rattle.pay_tree.specs.Owned.{StepTree, assigning, paying, choosing, grouping, StepsTree, no_steps, step_then}
 use Rattle.pay_tree.specs.Owned.{name_at, spelled_test, spelled_step, spelled_steps}
-use Rattle.pay_tree.specs.Text.{word_line, deeper}
+use Rattle.pay_text.specs.Text.{word_line, deeper}
 use Rattle.pay_runs.specs.RunLaws.{AreApart}
 use Rattle.pay_runs.specs.Slots.{test_within, step_within, steps_within}
 use Rattle.pay_passes.specs.Changes.{filled_step, filled_steps}

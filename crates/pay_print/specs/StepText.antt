@@ -3,7 +3,7 @@
 use Rattle.std.specs.Prelude.{ℕ, Bool, false, ◌||◌, codes, List, [], ◌∷◌, ◌++◌, filter}
 use Rattle.std.specs.Str.{bytes_eq}
 use Rattle.pay_meaning.specs.Language.{Condition, Statement, assign, pay, choose, group, Body, done, next}
-use Rattle.pay_tree.specs.Text.{condition_text, line_text, word_line, deeper, item_indent}
+use Rattle.pay_text.specs.Text.{condition_text, line_text, word_line, deeper, item_indent}
 
 -- further names, each after `, `
 abbrev pub further_names_text : List (List ℕ) → List ℕ

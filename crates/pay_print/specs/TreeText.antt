@@ -2,7 +2,7 @@
 use Rattle.std.specs.Prelude.{ℕ, Bool, true, false, codes, List, [], ◌∷◌, ◌++◌, map}
 use Rattle.pay_tree.specs.Owned.{StepTree, assigning, paying, choosing, grouping, StepsTree, no_steps, step_then}
 use Rattle.pay_tree.specs.Owned.{name_at, spelled_number, spelled_test}
-use Rattle.pay_tree.specs.Text.{line_text, word_line, deeper, item_indent}
+use Rattle.pay_text.specs.Text.{line_text, word_line, deeper, item_indent}
 use Rattle.pay_print.specs.StepText.{choice_line, else_lines}
 
 abbrev mutual

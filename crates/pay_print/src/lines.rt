@@ -4,7 +4,7 @@ ghost use Rattle.std.specs.Prelude.{◌≡◌, ◌++◌, codes, map, IfOk, OnOk}
 ghost use Rattle.pay_print.specs.StepText as text_of;
 ghost use Rattle.pay_tree.specs.Owned.{name_at, spelled_number, spelled_test};
 ghost use Rattle.pay_tree.specs.OwnedViews.{number_tree, test_tree};
-ghost use Rattle.pay_tree.specs.Text.{condition_text, deeper, line_text, word_line};
+ghost use Rattle.pay_text.specs.Text.{condition_text, deeper, line_text, word_line};
 
 use crate::parts::{name_at, print_number, print_test};
 use pay_fixed::NoMemory;

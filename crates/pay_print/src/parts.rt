@@ -3,7 +3,7 @@
 ghost use Rattle.std.specs.Prelude.{◌≡◌, ◌++◌, None, OnOk};
 ghost use Rattle.pay_tree.specs.Owned.{name_at, spelled_number, spelled_test};
 ghost use Rattle.pay_tree.specs.OwnedViews.{number_tree, test_kind_tree, test_tree};
-ghost use Rattle.pay_tree.specs.Text.{condition_text, number_text};
+ghost use Rattle.pay_text.specs.Text.{condition_text, number_text};
 
 use crate::words::{between, comparing, opening, truth};
 use pay_fixed::NoMemory;

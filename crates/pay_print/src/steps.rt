@@ -4,7 +4,7 @@ ghost use Rattle.std.specs.Prelude.{◌≡◌, ◌++◌, OnOk};
 ghost use Rattle.pay_print.specs.StepText.{else_lines};
 ghost use Rattle.pay_print.specs.TreeText.{has_any, opened_step, opened_steps, step_lines, steps_lines};
 ghost use Rattle.pay_tree.specs.OwnedViews.{step_tree, steps_tree};
-ghost use Rattle.pay_tree.specs.Text as text_of;
+ghost use Rattle.pay_text.specs.Text as text_of;
 
 use crate::lines::{deeper, print_choice_line, print_line, print_word_line};
 use crate::parts::name_at;

@@ -1,7 +1,7 @@
 //! The signs and words between the parts of a text.
 
 ghost use Rattle.std.specs.Prelude.{◌≡◌};
-ghost use Rattle.pay_tree.specs.Text as text_of;
+ghost use Rattle.pay_text.specs.Text as text_of;
 ghost use Rattle.pay_tree.specs.Views as view;
 
 use pay_tree::{Binary, Compare};

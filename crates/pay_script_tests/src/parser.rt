@@ -4,7 +4,7 @@ use crate::script::script_of;
 use crate::text::{Text, text_of};
 use crate::tree::LINES;
 use pay_parser::ParseFault;
-use pay_tree::print_script;
+use pay_text::print_script;
 use std::alloc::Global;
 use std::test::Fail;
 

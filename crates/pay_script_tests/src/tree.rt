@@ -4,7 +4,8 @@ use crate::script::script_of;
 use crate::text::put_names;
 use pay_dates::Day;
 use pay_fixed::NoMemory;
-use pay_tree::{Item, Script, Stmt, copy_body, legs, pays, print_script, size, variables};
+use pay_text::print_script;
+use pay_tree::{Item, Script, Stmt, copy_body, legs, pays, size, variables};
 use std::alloc::Global;
 use std::test::Fail;
 

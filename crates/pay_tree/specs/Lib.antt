@@ -3,7 +3,6 @@ pub mod Views
 pub mod Owned
 pub mod OwnedViews
 pub mod Assigned
-pub mod Text
 pub mod Sizes
 pub mod PartViews
 pub mod NameLists

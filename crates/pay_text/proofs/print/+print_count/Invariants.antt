@@ -1,4 +1,4 @@
-use Rattle.pay_tree.proofs.print.+print_count.Given as goal
+use Rattle.pay_text.proofs.print.+print_count.Given as goal
 
 abbrev pub decreases-print_count : goal.decreases-print_count
 decreases-print_count l = l.count

@@ -3,8 +3,8 @@ use Rattle.std.proofs.Common.{◌≡◌, ◌+◌, ◌/◌, ◌%◌, [], ◌∷�
 use Rattle.std.specs.Fmt.{decimal}
 use Rattle.std.proofs.lemmas.Fmt.{decimal_digit, decimal_step}
 use Rattle.std.proofs.lemmas.Grind.{common_steps}
-use Rattle.pay_tree.proofs.print.+print_count.Goals as goal
-use Rattle.pay_tree.proofs.print.+print_count.Goals.{then-count-ge10+in_ok-print_count, else-count-ge10}
+use Rattle.pay_text.proofs.print.+print_count.Goals as goal
+use Rattle.pay_text.proofs.print.+print_count.Goals.{then-count-ge10+in_ok-print_count, else-count-ge10}
 
 pub returns : goal.returns
 returns t c = elim c.if-count-ge10.branch [

@@ -1,9 +1,9 @@
 use Rattle.std.proofs.Common.{◌++◌, codes, sym, ap, ◌∙◌}
 use Rattle.pay_meaning.specs.Language.{Terms}
-use Rattle.pay_tree.specs.Text as text_of
+use Rattle.pay_text.specs.Text as text_of
 use Rattle.pay_tree.specs.Views as view
-use Rattle.pay_tree.proofs.PrintLemmas.{three_pieces}
-use Rattle.pay_tree.proofs.print.print_item.Goals as goal
+use Rattle.pay_text.proofs.PrintLemmas.{three_pieces}
+use Rattle.pay_text.proofs.print.print_item.Goals as goal
 
 pub returns-in_ok-extend_from_slice-in-Schedule : goal.returns-in_ok-extend_from_slice-in-Schedule
 returns-in_ok-extend_from_slice-in-Schedule c =

@@ -1,7 +1,7 @@
 -- The lines after `else`.
 use Rattle.std.proofs.Common.{◌≡◌, ℕ, ◌≤◌, codes, List, [], ◌∷◌, ◌++◌, length, ap, ◌∙◌, append_assoc, arith}
 use Rattle.pay_tree.specs.declared.tree.Stmt.{Stmt}
-use Rattle.pay_tree.specs.Text.{unless_empty, word_line, deeper, body_text}
+use Rattle.pay_text.specs.Text.{unless_empty, word_line, deeper, body_text}
 use Rattle.pay_tree.specs.Views.{body}
 
 -- the line `else` and the lines of statements are written where there are some

@@ -1,7 +1,7 @@
 use Rattle.std.proofs.Common.{◌≡◌, ◌++◌, drop}
-use Rattle.pay_tree.specs.Text.{body_text}
+use Rattle.pay_text.specs.Text.{body_text}
 use Rattle.pay_tree.specs.Views.{body}
-use Rattle.pay_tree.proofs.print.+statements.Given as goal
+use Rattle.pay_text.proofs.print.+statements.Given as goal
 
 -- the text so far and the lines of what is left are the whole text
 abbrev pub invariant-print_statements-loop-statement : goal.invariant-print_statements-loop-statement

@@ -1,7 +1,7 @@
 use Rattle.std.proofs.Common.{◌≡◌, ◌++◌, drop, map}
-use Rattle.pay_tree.specs.Text.{script_text}
+use Rattle.pay_text.specs.Text.{script_text}
 use Rattle.pay_tree.specs.Views.{item}
-use Rattle.pay_tree.proofs.print.print_script.Given as goal
+use Rattle.pay_text.proofs.print.print_script.Given as goal
 
 -- the text so far and the lines of what is left are the whole text
 abbrev pub invariant-loop-item : goal.invariant-loop-item

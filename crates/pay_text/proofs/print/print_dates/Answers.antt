@@ -1,7 +1,7 @@
 use Rattle.std.proofs.Common.{codes}
 use Rattle.pay_dates.specs.Days.{day_text}
-use Rattle.pay_tree.proofs.PrintLemmas.{four_pieces}
-use Rattle.pay_tree.proofs.print.print_dates.Goals as goal
+use Rattle.pay_text.proofs.PrintLemmas.{four_pieces}
+use Rattle.pay_text.proofs.print.print_dates.Goals as goal
 
 pub returns : goal.returns
 returns c =

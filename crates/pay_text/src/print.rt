@@ -4,13 +4,12 @@ ghost use Rattle.std.specs.Prelude.{◌≡◌, ◌<◌, ◌++◌, codes, length,
 ghost use Rattle.std.specs.Fmt.{decimal};
 ghost use Rattle.pay_dates.specs.Days.{day_text};
 ghost use Rattle.pay_meaning.specs.Words.{unit_word};
-ghost use Rattle.pay_tree.specs.Text as text_of;
+ghost use Rattle.pay_text.specs.Text as text_of;
 ghost use Rattle.pay_tree.specs.Views as view;
 
-use crate::name::Name;
-use crate::tree::{Binary, Compare, Cond, Expr, Item, Script, Stmt, Unary};
 use pay_dates::{Day, Rule, Unit, write_day};
 use pay_fixed::NoMemory;
+use pay_tree::{Binary, Compare, Cond, Expr, Item, Name, Script, Stmt, Unary};
 use std::alloc::Global;
 
 /// The indent of the statements of an item.

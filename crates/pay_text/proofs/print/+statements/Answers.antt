@@ -1,6 +1,6 @@
 use Rattle.std.proofs.Common.{◌∙◌}
-use Rattle.pay_tree.proofs.PrintLemmas.{else_lines}
-use Rattle.pay_tree.proofs.print.+statements.Goals as goal
+use Rattle.pay_text.proofs.PrintLemmas.{else_lines}
+use Rattle.pay_text.proofs.print.+statements.Goals as goal
 
 pub print_else-returns-in_ok-print_statements-in-len1-up : goal.print_else-returns-in_ok-print_statements-in-len1-up
 print_else-returns-in_ok-print_statements-in-len1-up t c =

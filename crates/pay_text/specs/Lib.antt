@@ -1,0 +1,2 @@
+-- What the contracts of `pay_text` cite.
+pub mod Text
