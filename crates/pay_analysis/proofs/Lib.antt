@@ -1,6 +1,5 @@
 mod MarkLemmas
 mod TestMarks
-mod EndLemmas
 mod SlotLemmas
 mod BranchLemmas
 mod StepMarks

@@ -1,24 +1,14 @@
--- What the code's facts, ranges and decisions are, what facts have to be, and the words of the steps in which a walk goes through a choice.
+-- What the code's facts are, what they have to be, and the words of the steps in which a walk goes through a choice.
 use Rattle.std.specs.Prelude.{ℕ, Bool, true, false, List, [], ◌∷◌, get_or, set, Option, Some, None}
 use Rattle.pay_domains.specs.declared.piece.Piece.{Piece}
-use Rattle.pay_domains.specs.Pieces.{AreRaws, IsDomain, from_to}
+use Rattle.pay_domains.specs.Pieces.{AreRaws, IsDomain}
 use Rattle.pay_domains.specs.Operators.{united}
-use Rattle.pay_facts.specs.Ranges.{Range}
-use Rattle.pay_facts.specs.Decisions.{Decision, least_raw, greatest_raw}
 use Rattle.pay_facts.specs.SlotFacts.{SlotDomains, slot_domain, SlotFacts}
 use Rattle.pay_analysis.specs.declared.facts.Facts.{Facts}
-use Rattle.pay_analysis.specs.declared.range.Range.{Range as RangeValue}
-use Rattle.pay_analysis.specs.declared.decision.Decision.{Decision as DecisionValue}
 
--- what facts, a range and a decision of the code are
+-- what facts of the code are
 abbrev pub slot_facts : Facts → SlotFacts
 slot_facts facts = record { domains = facts.domains.items; known = facts.known }
-
-abbrev pub range_of : RangeValue → Range
-range_of range = record { domain = range.domain; flags = range.flags; known = range.known }
-
-abbrev pub decision_of : DecisionValue → Decision
-decision_of decision = record { answer = decision.answer; flags = decision.flags; known = decision.known }
 
 -- the raws of each variable are a domain
 abbrev pub AreDomains : SlotDomains → Type 0
@@ -27,11 +17,6 @@ AreDomains domains = (slot : ℕ) → IsDomain (slot_domain domains slot)
 -- the raws of each variable lie within the limit of a number
 abbrev pub AreAllRaws : SlotDomains → Type 0
 AreAllRaws domains = (slot : ℕ) → AreRaws (slot_domain domains slot)
-
--- the piece from the least to the greatest raw, if there is a raw
-abbrev pub ends_of : List Piece → Option Piece
-ends_of [] = None
-ends_of (p ∷ rest) = Some (from_to (least_raw p rest) (greatest_raw p rest))
 
 -- an answer is decided, and false; or true
 abbrev pub is_false : Option Bool → Bool

@@ -7,9 +7,10 @@ ghost use Rattle.pay_facts.specs.SlotFacts.{slot_domain};
 ghost use Rattle.pay_analysis.specs.Walking.{all_joined_with, all_put, domains_of, put_out, AreAllRaws};
 
 use crate::facts::Facts;
-use crate::range::{Range, copy_slot};
+use crate::slots::copy_slot;
 use pay_domains::Domain;
 use pay_fixed::NoMemory;
+use pay_ranges::Range;
 use std::alloc::Global;
 use std::mem;
 

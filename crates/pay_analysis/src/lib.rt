@@ -6,12 +6,10 @@
 #![tactic(auto)]
 
 mod branches;
-mod compare;
-mod decision;
 mod facts;
 pub mod laws;
 mod marks;
-mod range;
+mod slots;
 mod walk_number;
 mod walk_steps;
 mod walk_test;

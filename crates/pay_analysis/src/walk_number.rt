@@ -6,12 +6,14 @@ ghost use Rattle.pay_facts.specs.Reached.{number_found, number_parts};
 ghost use Rattle.pay_facts.specs.SlotFacts.{range_by_slots};
 ghost use Rattle.pay_tree.specs.OwnedViews.{number_tree};
 ghost use Rattle.pay_analysis.specs.Marks.{mark_of, marked, marks_at, point_unless, put_mark};
-ghost use Rattle.pay_analysis.specs.Walking.{range_of, AreAllRaws};
+ghost use Rattle.pay_analysis.specs.Walking.{AreAllRaws};
+ghost use Rattle.pay_ranges.specs.Views.{range_of};
 
 use crate::marks::{Mark, is_flagged, set_mark};
-use crate::range::{Range, fixing_range, literal_range, range_of_both, range_of_one, slot_range};
+use crate::slots::slot_range;
 use pay_domains::Domain;
 use pay_fixed::{Fixed, NoMemory};
+use pay_ranges::{Range, fixing_range, literal_range, range_of_both, range_of_one};
 use pay_tree::{Node, NodeKind};
 use std::alloc::Global;
 

@@ -6,15 +6,14 @@ ghost use Rattle.pay_facts.specs.Reached.{test_found, test_parts};
 ghost use Rattle.pay_facts.specs.SlotFacts.{decide_by_slots, surely_decision};
 ghost use Rattle.pay_tree.specs.OwnedViews.{test_tree};
 ghost use Rattle.pay_analysis.specs.Marks.{mark_of, marked, marks_at, put_mark};
-ghost use Rattle.pay_analysis.specs.Walking.{decision_of, is_false, is_true, AreAllRaws};
+ghost use Rattle.pay_analysis.specs.Walking.{is_false, is_true, AreAllRaws};
+ghost use Rattle.pay_ranges.specs.Views.{decision_of};
 
-use crate::compare::compare;
-use crate::decision::{Decision, both, either, surely, turned};
 use crate::marks::{Mark, is_flagged, set_mark};
-use crate::range::no_flags;
 use crate::walk_number::walk_number;
 use pay_domains::Domain;
 use pay_fixed::NoMemory;
+use pay_ranges::{Decision, both, compare, either, no_flags, surely, turned};
 use pay_tree::{Test, TestKind};
 use std::alloc::Global;
 

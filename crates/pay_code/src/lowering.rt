@@ -18,7 +18,7 @@ use std::alloc::Global;
 /// The program of events, whose variables start from these values; its runs read the smoothings of comparisons where it is `fuzzy`.
 ///
 /// The dates of the events have to rise; their variables are among those of `start`, at most 1,024; each `if` lists the variables that its branches
-/// assign; each smoothing is good; and there are at most 4,096 events and 262,144 numbers, tests and steps.
+/// assign; each smoothing is good; and there are at most 4,096 events and 262,144 numbers, tests and steps, groups not counted.
 ///
 /// It recurses as deep as the trees are: the stack has to hold a call for each number, test and step that others stand within.
 ///

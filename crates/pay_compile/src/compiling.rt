@@ -35,7 +35,7 @@ pub enum Mode {
 /// The program of a trade, which has to be good, from this start: that of its events up to `until`, or of all of them, simplified by what is known of
 /// them before any run. A number that is known to have one value, and not to fault, is that number; an `if` whose condition is known to be true, or to
 /// be false, is the branch that runs, and where the condition can fault it stays with that branch alone. What a run pays, how it ends and its fault are
-/// as they were, under fixings within the limit of a number.
+/// as they were, under fixings within the limit of a fixing, 10^15 raws. It starts from the values of `start`.
 ///
 /// # Errors
 ///
@@ -50,6 +50,7 @@ pub fn compile(
     requires { IsGood trade.now }
     ensures stands { IfOk result (λ program. StandsFor program (prepared until trade.now)) }
     ensures dates { IfOk result (λ program. program.dates ≡ dates_of (events_until until (spelled_trade trade.now))) }
+    ensures start { IfOk result (λ program. program.start ≡ no_values trade.now.names.items) }
     ensures crisp { IfOk result (λ program. program.fuzzy ≡ false) }
     ensures legs { IfOk result (HasOwnLegs (length trade.now.legs.items)) }
     ensures pays { IfOk result (λ program. pays_in program.code ≤ 16_384) }

@@ -9,7 +9,7 @@
 //! ```
 //!
 //! Proved: a trade's events stand for the script's, or the refusal is the script's first; each run of the program, under fixings within the limit of a
-//! number, gives the direct meaning of the trade's events; and it evaluates as many nodes as a run of their simplified script. The module [`laws`] proves
+//! fixing, gives the direct meaning of the trade's events; and it evaluates as many nodes as a run of their simplified script. The module [`laws`] proves
 //! that the events which are lowered stand for the simplified script.
 #![tactic(auto)]
 

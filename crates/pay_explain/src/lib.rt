@@ -1,5 +1,5 @@
-//! What is said of the events of a trade: for each one, its steps without the parts of which the outcome is known before any run, and the raws that each
-//! variable can have after it, in every run.
+//! What is said of the events of a trade: for each one, its steps without the parts of which the domains of the variables show the outcome before any
+//! run, and the raws that each variable can have after it, in every run.
 //!
 //! [`fresh_facts`] is what is known before the first event, [`explain_event`] the text of an event and the facts after it.
 //!

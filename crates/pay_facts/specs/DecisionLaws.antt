@@ -27,8 +27,8 @@ pub record AreEnds (p : Piece) (rest : List Piece) : Type 0 where
   pub greatest : Held (greatest_raw p rest) (p ∷ rest)
   pub between : (x : ℤ) → Held x (p ∷ rest) → (least_raw p rest ≤ℤ x) × (x ≤ℤ greatest_raw p rest)
 
--- A comparison is decided exactly where all raws agree on it; and what it asks of two domains is that no raw is in both, that both have one raw
--- alone, the same, and their least and greatest raws.
+-- A comparison of domains that have raws is decided exactly where all raws agree on it; and what it asks of two domains is that no raw is in both, that
+-- both have one raw alone, the same, and their least and greatest raws.
 pub record DecisionsReadRaws : Type 0 where
   pub sound : ComparisonAnswerIsSound
   pub full : ComparisonAnswerIsFull

@@ -1,5 +1,6 @@
 -- The numbers and tests of owned trees that a run evaluates, each with its place and with what it gave: a value, a truth or a fault. Sides come before
--- the whole; nothing is evaluated after a fault, and no part of a side that is skipped or of the branch that isn't chosen.
+-- the whole; after a side that faults only the wholes around it follow, each with that fault, and nothing else of the event. No part of a side that
+-- is skipped, or of the branch that isn't chosen, is evaluated.
 use Rattle.std.specs.Prelude.{ℕ, ℤ, Bool, true, false, List, [], ◌∷◌, ◌++◌, Result, Ok, Err}
 use Rattle.pay_meaning.specs.declared.fault.FaultKind.{FaultKind}
 use Rattle.pay_meaning.specs.Meaning.{Variables, Moment, Effect, value, truth, effect_of}

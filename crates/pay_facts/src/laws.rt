@@ -17,7 +17,7 @@ pub fn decisions_are_sound()
     ensures { DecisionsAreSound }
 {}
 
-/// A comparison is decided exactly where all raws of its two domains agree on it.
+/// A comparison of two domains that both have raws is decided exactly where all raws agree on it.
 pub fn decisions_read_raws()
     ensures { DecisionsReadRaws }
 {}

@@ -7,8 +7,8 @@
 //! - `specs/Holding.antt`: when facts hold of the variables of a run.
 //! - `specs/SlotFacts.antt`: ranges, decisions and facts of owned trees, by the numbers of variables.
 //! - `specs/Reached.antt`: the parts of steps that some run can reach, with what each can give; `specs/Visits.antt`: the parts that a run evaluates.
-//! - [`laws`]: the facts hold in every run, a comparison is decided exactly where all raws agree on it, and folding changes nothing; facts by number
-//!   are those by name, and each part that a run evaluates is reached, with facts that it fits.
+//! - [`laws`]: the facts hold in every run, a comparison of numbers that have raws is decided exactly where all raws agree on it, and folding changes
+//!   nothing; facts by number are those by name, and each part that a run evaluates is reached, with facts that it fits.
 #![tactic(auto)]
 
 pub mod laws;

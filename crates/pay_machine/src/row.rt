@@ -4,7 +4,7 @@ use pay_fixed::{Fixed, NoMemory};
 use std::alloc::Global;
 use std::marker::Model;
 
-/// One cell for each event of a program, in order: the fixing at its date, if there is one.
+/// One cell for each event of a program, in order: the fixing at its date, if there is one, of at most 10^15 raws in magnitude.
 #[derive(Drop)]
 pub struct Row {
     cells: Vec<Option<Fixed>>,
@@ -12,14 +12,18 @@ pub struct Row {
 
 impl Model for Row {
     ghost use Rattle.pay_runs.specs.Slots.{Row as Cells};
+    ghost use Rattle.pay_machine.specs.Rows.{AreCells};
 
     ghost Value = { Cells };
 
     ghost view = { λ row. row.cells.items };
+
+    ghost invariant = { λ row. AreCells row.cells.items };
 }
 
 impl Row {
     ghost use Rattle.std.specs.Prelude.{◌≡◌, ◌++◌, ◌∷◌, [], OnOk, OnErr};
+    ghost use Rattle.pay_machine.specs.Rows.{AreCells, IsCell};
 
     /// A row without cells. It takes no memory.
     pub fn new(alloc: Global) -> Row
@@ -30,12 +34,14 @@ impl Row {
         }
     }
 
-    /// Appends a cell.
+    /// Appends a cell: the next event's fixing, at most 10^15 raws in magnitude, or none.
     ///
     /// # Errors
     ///
     /// [`NoMemory`] where there was no memory for it; then the row is as before.
+    #[tactic(auto, using(crate::proofs::RowLemmas::one_more_cell))]
     pub fn push(&mut self, cell: Option<Fixed>) -> Result<(), NoMemory>
+        requires { IsCell cell }
         ensures ok { OnOk result (self.new ≡ self.old ++ cell ∷ []) }
         ensures err { OnErr result (self.new ≡ self.old) }
     {
@@ -54,7 +60,8 @@ impl Row {
 
     /// The cells, in order.
     pub fn cells(&self) -> &[Option<Fixed>]
-        ensures { result.now ≡ self.now }
+        ensures same { result.now ≡ self.now }
+        ensures fixings { AreCells self.now }
     {
         self.cells.as_slice()
     }

@@ -1,6 +1,6 @@
 //! The text of the steps that are left of an event once its tests are decided, as the command `explain` shows them.
 //!
-//! [`print_steps`] appends it. It has the form of the canonical text: an assignment or a payment is a line `x = 1.5;` or `leg pays 1.5;`, and an
+//! [`print_steps`] gives it. It has the form of the canonical text: an assignment or a payment is a line `x = 1.5;` or `leg pays 1.5;`, and an
 //! `if` has its own line, the lines of its first branch two spaces further in, where its second branch has a step a line `else` and theirs, and a line
 //! `endif`. It differs from it in what only such steps have, and in a comment:
 //!
@@ -10,7 +10,7 @@
 //!   `sure(false, C)`.
 //! - A group has no line of its own: its steps stand in its place, and a branch of groups that are empty has no step.
 //!
-//! Proved: what is appended is the text of the steps.
+//! Proved: what it gives is the text of the steps.
 //!
 //! - `specs/StepText.antt`: the text of plain steps, by the names of variables and legs.
 //! - `specs/TreeText.antt`: the same of owned steps, where variables and legs are numbers.

@@ -1,6 +1,6 @@
 //! Steps and their branches.
 
-ghost use Rattle.std.specs.Prelude.{◌≡◌, ◌++◌, OnOk};
+ghost use Rattle.std.specs.Prelude.{◌≡◌, ◌++◌, IfOk, OnOk};
 ghost use Rattle.pay_print.specs.StepText.{else_lines};
 ghost use Rattle.pay_print.specs.TreeText.{has_any, opened_step, opened_steps, step_lines, steps_lines};
 ghost use Rattle.pay_tree.specs.OwnedViews.{step_tree, steps_tree};
@@ -12,14 +12,29 @@ use pay_fixed::NoMemory;
 use pay_tree::{Name, Step};
 use std::alloc::Global;
 
-/// Appends the lines of steps after this indent, where the variables and the legs have these names. An `if` shows the names of the variables in its list
-/// of changes, in the order of that list. A number past the end of the names has the empty one.
+/// The lines of steps after this indent, where the variables and the legs have these names. An `if` shows the names of the variables in its list of
+/// changes, in the order of that list. A number past the end of the names has the empty one.
 ///
 /// # Errors
 ///
-/// [`NoMemory`] where there was no memory; the text then ends in a part of the lines.
-#[cycle(steps)]
+/// [`NoMemory`] where there was no memory for the lines.
 pub fn print_steps(
+    alloc: Global,
+    names: &[Name],
+    legs: &[Name],
+    steps: &[Step],
+    indent: &[u8],
+) -> Result<Vec<u8>, NoMemory>
+    ensures { IfOk result (λ lines. lines.items ≡ steps_lines names.now legs.now indent.now (steps_tree steps.now)) }
+{
+    let mut lines = Vec::new(alloc);
+    append_steps(alloc, names, legs, steps, indent, &mut lines)?;
+    Ok(lines)
+}
+
+/// Appends the lines of steps; where there is no memory, perhaps a part of them.
+#[cycle(steps)]
+fn append_steps(
     alloc: Global,
     names: &[Name],
     legs: &[Name],
@@ -30,14 +45,14 @@ pub fn print_steps(
     ensures { OnOk result (text.new.items ≡ text.old.items ++ steps_lines names.now legs.now indent.now (steps_tree steps.now)) }
 {
     for step in steps {
-        print_step(alloc, names, legs, step, indent, text)?;
+        append_step(alloc, names, legs, step, indent, text)?;
     }
     Ok(())
 }
 
 /// Appends the lines of a step.
 #[cycle(steps)]
-fn print_step(
+fn append_step(
     alloc: Global,
     names: &[Name],
     legs: &[Name],
@@ -72,17 +87,17 @@ fn print_step(
         } => {
             print_choice_line(indent, names, test, changes, text)?;
             let inner = deeper(alloc, indent)?;
-            print_steps(alloc, names, legs, yes, &inner, text)?;
-            print_else(alloc, names, legs, no, indent, text)?;
+            append_steps(alloc, names, legs, yes, &inner, text)?;
+            append_else(alloc, names, legs, no, indent, text)?;
             print_word_line(indent, b"endif", text)
         }
-        Step::Group(steps) => print_steps(alloc, names, legs, steps, indent, text),
+        Step::Group(steps) => append_steps(alloc, names, legs, steps, indent, text),
     }
 }
 
 /// Appends the line `else` and the lines of the steps after it, if there is a step once groups are opened.
 #[cycle(steps)]
-fn print_else(
+fn append_else(
     alloc: Global,
     names: &[Name],
     legs: &[Name],
@@ -96,7 +111,7 @@ fn print_else(
     if has_step(steps) {
         print_word_line(indent, b"else", text)?;
         let inner = deeper(alloc, indent)?;
-        print_steps(alloc, names, legs, steps, &inner, text)?;
+        append_steps(alloc, names, legs, steps, &inner, text)?;
     }
     Ok(())
 }

@@ -1,6 +1,7 @@
 //! Trades of scripts that are read from texts, and their runs. What can't be had is `None`: a test that meets it fails.
 
 ghost use Rattle.std.specs.Prelude.{IfSome};
+ghost use Rattle.pay_machine.specs.Rows.{IsCell};
 ghost use Rattle.pay_passes.specs.Trades.{IsGood};
 
 use pay_code::Program;
@@ -39,13 +40,22 @@ pub fn program_of(alloc: Global, trade: &Trade, until: Option<Day>) -> Option<Pr
 fn row_of(alloc: Global, cells: &[Option<i64>]) -> Option<Row> {
     let mut row = Row::new(alloc);
     for cell in cells {
-        let cell = match cell {
-            Some(raw) => Some(Fixed::from_raw(*raw)?),
-            None => None,
-        };
-        row.push(cell).ok()?;
+        row.push(fixing_of(*cell)?).ok()?;
     }
     Some(row)
+}
+
+/// The fixing of this raw, which can be one; or no fixing.
+fn fixing_of(cell: Option<i64>) -> Option<Option<Fixed>>
+    ensures { IfSome result IsCell }
+{
+    match cell {
+        Some(raw) if raw.unsigned_abs() <= 1_000_000_000_000_000 => Some(Some(Fixed::from_raw(
+            raw,
+        )?)),
+        Some(_) => None,
+        None => Some(None),
+    }
 }
 
 /// The outcome of a trade's run over these cells, one for each event.

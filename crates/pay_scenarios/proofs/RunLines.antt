@@ -1,21 +1,25 @@
 -- A run of an aligned program gives what its events mean under the fixings of a row.
-use Rattle.std.proofs.Common.{◌≡◌, ℕ, zero, suc, ◌<◌, nat_lt, Bool, true, false, inl, inr, ℤ, sym, List, [], ◌∷◌, length, map}
-use Rattle.std.proofs.Common.{Option, None, IsTrue, All, refl, ap, ◌∙◌, arith}
+use Rattle.std.proofs.Common.{◌≡◌, ℕ, zero, suc, ◌<◌, ◌≤◌, nat_lt, Bool, true, false, inl, inr, ℤ, unsigned_abs, sym, List, [], ◌∷◌, length, map}
+use Rattle.std.proofs.Common.{Option, Some, None, IsTrue, All, refl, ap, ◌∙◌, arith}
 use Rattle.std.specs.List.{list_all, zip}
+use Rattle.std.proofs.lemmas.Int.{ints}
 use Rattle.std.proofs.lemmas.List.{length-map}
 use Rattle.std.proofs.lemmas.Bool.{and_parts, cases_eq, ne_eqb, ltb-true}
 use Rattle.pay_dates.specs.declared.day.Day.{Day}
-use Rattle.pay_meaning.specs.Language.{Event}
-use Rattle.pay_meaning.specs.Meaning.{Past, fixing_at, fixings_of, meaning, no_variables}
+use Rattle.pay_meaning.specs.Language.{Event, done}
+use Rattle.pay_meaning.specs.Meaning.{Fixings, Past, fixing_at, fixings_of, meaning, no_variables}
 use Rattle.pay_tables.specs.Tables.{are_distinct}
 use Rattle.pay_code.specs.Bounds.{legs_in, AreOnLegs}
 use Rattle.pay_code.specs.Filled.{is_among}
 use Rattle.pay_code.specs.Programs.{Compiled, run}
 use Rattle.pay_compile.specs.Compiling.{events_until, CountsNodes, HasOwnLegs, MeansDirectly}
-use Rattle.pay_facts.specs.Holding.{AreFixings}
+use Rattle.pay_domains.specs.Pieces.{Held}
+use Rattle.pay_facts.specs.Holding.{AreFixings, IsFixing}
+use Rattle.pay_facts.specs.Ranges.{fixings}
 use Rattle.pay_runs.specs.Counting.{node_count}
 use Rattle.pay_machine.specs.declared.outcome.Payment.{Payment}
 use Rattle.pay_machine.specs.Outcomes.{Given, IsOutcome}
+use Rattle.pay_machine.specs.Rows.{AreCells, IsCell}
 use Rattle.pay_machine.specs.Runs.{IsGiven, IsBounded}
 use Rattle.pay_machine.proofs.NamedOutcomes.{numbers_are_names}
 use Rattle.pay_scenarios.specs.Aligned.{cells_from}
@@ -30,6 +34,26 @@ row_cells : (past : Option Past) (dates : List Day) (cells : List (Option ℤ)) 
 row_cells past dates cells [] distinct full = refl
 row_cells past dates cells (date ∷ own) distinct full =
     λ i. source-fixing past dates cells date distinct full i ∷ row_cells past dates cells own distinct full i
+
+-- a raw that the fixings hold is at most 10^15 in magnitude
+limited : (raw : ℤ) → Held raw fixings → unsigned_abs raw ≤ 1_000_000_000_000_000
+limited raw (inl within) = omega (arith, ints, within.low, within.high)
+
+cell_limited : (cell : Option ℤ) → IsFixing cell → IsCell cell
+cell_limited None h = tt
+cell_limited (Some raw) h = limited raw h
+
+fixings_limited : (known : Fixings) (own : List Day) → AreFixings known → AreCells (map (fixing_at known) own)
+fixings_limited known [] h = tt
+fixings_limited known (date ∷ own) h =
+    (cell_limited (fixing_at known date) (h (record { date = date; period = 0; days = 0; body = done })), fixings_limited known own h)
+
+-- the cells of these dates are cells of a row
+pub cells_are_limited : (past : Option Past) (dates : List Day) (cells : List (Option ℤ)) (own : List Day) → IsTrue (are_distinct dates)
+    → length cells ≡ length dates → AreFixings (fixings_of past (zip dates cells))
+    → AreCells (cells_from (map (λ date. source_of past dates date) own) cells)
+cells_are_limited past dates cells own distinct full fixed =
+    rw (row_cells past dates cells own distinct full) (fixings_limited (fixings_of past (zip dates cells)) own fixed)
 
 -- what holds of each of these holds of one that is among them
 holds_among : (p : ℕ → Bool) (legs : List ℕ) (leg : ℕ) → list_all p legs ≡ true → is_among leg legs ≡ true → p leg ≡ true

@@ -5,6 +5,7 @@ ghost use Rattle.std.specs.List.{zip};
 ghost use Rattle.pay_compile.specs.Compiling.{HasOwnLegs};
 ghost use Rattle.pay_facts.specs.Facts.{no_facts};
 ghost use Rattle.pay_machine.specs.Outcomes.{IsOutcome};
+ghost use Rattle.pay_machine.specs.Rows.{AreCells};
 ghost use Rattle.pay_meaning.specs.Meaning.{fixings_of, meaning, no_variables};
 ghost use Rattle.pay_passes.specs.Trades.{IsGood, spelled_trade};
 ghost use Rattle.pay_runs.specs.Counting.{node_count};
@@ -133,6 +134,7 @@ fn fill_row(
     cells: &[Option<Fixed>],
     row: &mut Row,
 ) -> Result<(), NoMemory>
+    requires { AreCells (cells_from sources.now cells.now) }
     ensures { OnOk result (row.new ≡ cells_from sources.now cells.now) }
 {
     row.clear();

@@ -1,4 +1,5 @@
--- The simplified script: events without the parts of which the outcome is known before any run. The parts of a whole are simplified before the whole.
+-- The simplified script: events without the parts of which the domains of the variables show the outcome before any run. The parts of a whole are
+-- simplified before the whole.
 use Rattle.std.specs.Prelude.{ℤ, Bool, true, false, not, List, [], ◌∷◌, Option, Some, None}
 use Rattle.pay_meaning.specs.Language.{Number, literal, variable, spot, period, days, negative, absolute, binary}
 use Rattle.pay_meaning.specs.Language.{Condition, compare, negation, conjunction, disjunction, settled, sure}

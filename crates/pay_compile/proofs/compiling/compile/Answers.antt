@@ -26,6 +26,7 @@ returns c =
     record {
       stands = IfOk-weaker c.lower.result _ _ (λ program is. is.stands) made;
       dates = IfOk-weaker c.lower.result _ _ (program_dates c.args.until c.args.trade.now) made;
+      start = IfOk-weaker c.lower.result _ _ (λ program is. is.start) made;
       crisp = IfOk-weaker c.lower.result _ _ (λ program is. is.crisp) made;
       legs = IfOk-weaker c.lower.result _ _ (program_legs c.args.until c.args.trade.now c.requires) made;
       pays = IfOk-weaker c.lower.result _ _ (program_pays c.args.until c.args.trade.now c.requires) made;

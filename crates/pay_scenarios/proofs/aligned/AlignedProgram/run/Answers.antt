@@ -4,8 +4,15 @@ use Rattle.pay_passes.specs.Trades.{spelled_trade}
 use Rattle.pay_inputs.specs.PastViews.{lent_past}
 use Rattle.pay_simplified.specs.Simplified.{simplified}
 use Rattle.pay_scenarios.proofs.FixingLimits.{are_fixings}
-use Rattle.pay_scenarios.proofs.RunLines.{run_nodes, run_outcome}
+use Rattle.pay_scenarios.proofs.RunLines.{cells_are_limited, run_nodes, run_outcome}
 use Rattle.pay_scenarios.proofs.aligned.AlignedProgram.run.Goals as goal
+
+pub fill_row-requires : goal.fill_row-requires
+fill_row-requires c =
+    let aligned = c.args.self.now in
+    rw (c.as_slice.ensures.value, aligned.aligned)
+    (cells_are_limited (lent_past aligned.past) aligned.dates.now c.args.cells.now aligned.program.dates aligned.distinct c.requires.full
+    (are_fixings (lent_past aligned.past) aligned.dates.now c.args.cells.now c.requires.good_past c.requires.fixings))
 
 pub returns-clause-outcome : goal.returns-clause-outcome
 returns-clause-outcome c =

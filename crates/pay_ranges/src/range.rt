@@ -4,9 +4,9 @@ ghost use Rattle.std.specs.Prelude.{◌≡◌, IfOk};
 ghost use Rattle.pay_domains.specs.Operators.{reach, no_flags, with_flags};
 ghost use Rattle.pay_domains.specs.Pieces.{AreRaws, IsDomain};
 ghost use Rattle.pay_facts.specs.Ranges.{exactly, fixing_range, range_of_one, range_of_both, result_of};
-ghost use Rattle.pay_facts.specs.SlotFacts.{signed_domain, slot_domain};
+ghost use Rattle.pay_facts.specs.SlotFacts.{signed_domain};
 ghost use Rattle.pay_tree.specs.Views.{operator};
-ghost use Rattle.pay_analysis.specs.Walking.{range_of, AreAllRaws};
+ghost use Rattle.pay_ranges.specs.Views.{range_of};
 
 use pay_domains::{Domain, Flags, Ranged};
 use pay_fixed::{Fixed, NoMemory};
@@ -49,7 +49,11 @@ pub fn with_flags(left: Flags, right: Flags) -> Flags
     }
 }
 
-/// The range of a literal.
+/// The range of a literal: its raw alone. It can't fault, and the fixing is known as before.
+///
+/// # Errors
+///
+/// [`NoMemory`] where there was no memory for the domain.
 pub fn literal_range(alloc: Global, literal: Fixed, known: bool) -> Result<Range, NoMemory>
     ensures same { IfOk result (λ range. range_of range ≡ exactly literal known) }
     ensures within { IfOk result (λ range. AreRaws range.domain) }
@@ -61,35 +65,12 @@ pub fn literal_range(alloc: Global, literal: Fixed, known: bool) -> Result<Range
     })
 }
 
-/// The range of a variable.
-pub fn slot_range(
-    alloc: Global,
-    domains: &[Domain],
-    slot: u32,
-    known: bool,
-) -> Result<Range, NoMemory>
-    requires { AreAllRaws domains.now }
-    ensures same { IfOk result (λ range. range_of range ≡ record { domain = slot_domain domains.now slot; flags = no_flags; known = known }) }
-    ensures within { IfOk result (λ range. AreRaws range.domain) }
-{
-    Ok(Range {
-        domain: copy_slot(alloc, domains, slot)?,
-        flags: no_flags(),
-        known,
-    })
-}
-
-/// The raws of a variable once more; past the end it has 0 alone.
-pub fn copy_slot(alloc: Global, domains: &[Domain], slot: u32) -> Result<Domain, NoMemory>
-    ensures { IfOk result (λ domain. domain ≡ slot_domain domains.now slot) }
-{
-    match domains.get(slot as usize) {
-        Some(domain) => domain.copy(),
-        None => Domain::point(alloc, 0),
-    }
-}
-
-/// The range of the fixing.
+/// The range of the fixing: all raws within the limit of a fixing, of 10^15. Where it isn't `known` to be there, it can be missing; it is there
+/// after it was read.
+///
+/// # Errors
+///
+/// [`NoMemory`] where there was no memory for the domain.
 pub fn fixing_range(alloc: Global, known: bool) -> Result<Range, NoMemory>
     ensures same { IfOk result (λ range. range_of range ≡ fixing_range known) }
     ensures within { IfOk result (λ range. AreRaws range.domain) }
@@ -105,7 +86,11 @@ pub fn fixing_range(alloc: Global, known: bool) -> Result<Range, NoMemory>
     })
 }
 
-/// The range of a number whose sign is changed or left out.
+/// The range of a number whose sign is changed or left out. The raws of `side` lie within the limit of a number.
+///
+/// # Errors
+///
+/// [`NoMemory`] where there was no memory for the domain.
 pub fn range_of_one(op: Unary, side: Range) -> Result<Range, NoMemory>
     requires { AreRaws side.domain }
     ensures same { IfOk result (λ range. range_of range ≡ range_of_one (signed_domain op) (range_of side)) }
@@ -130,7 +115,12 @@ fn signed_domain(op: Unary, side: &Domain) -> Result<Domain, NoMemory>
     }
 }
 
-/// The range of two numbers under an operator.
+/// The range of two numbers under an operator, whose raws lie within the limit of a number: the raws that it can give, and the faults of either side
+/// and its own.
+///
+/// # Errors
+///
+/// [`NoMemory`] where there was no memory for the domain.
 pub fn range_of_both(op: Binary, left: Range, right: Range) -> Result<Range, NoMemory>
     requires left { AreRaws left.domain }
     requires right { AreRaws right.domain }

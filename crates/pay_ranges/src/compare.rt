@@ -5,7 +5,7 @@ ghost use Rattle.pay_domains.specs.Pieces.{IsDomain};
 ghost use Rattle.pay_domains.specs.Queries.{point_of};
 ghost use Rattle.pay_facts.specs.Decisions.{are_apart, compared_ends, comparison_answer, comparison_decision, decided, is_same_point};
 ghost use Rattle.pay_tree.specs.Views.{comparison};
-ghost use Rattle.pay_analysis.specs.Walking.{decision_of, ends_of, range_of};
+ghost use Rattle.pay_ranges.specs.Views.{decision_of, ends_of, range_of};
 
 use crate::decision::Decision;
 use crate::range::{Range, with_flags};
@@ -13,7 +13,11 @@ use pay_domains::{Domain, Piece};
 use pay_fixed::NoMemory;
 use pay_tree::Compare;
 
-/// The decision of a comparison of two numbers.
+/// The decision of a comparison of two numbers: decided where all raws of one side, each beside each of the other, agree on it.
+///
+/// # Errors
+///
+/// [`NoMemory`] where there was no memory to find the raws that both sides have.
 pub fn compare(op: Compare, left: Range, right: Range) -> Result<Decision, NoMemory>
     ensures { IfOk result (λ decision. decision_of decision ≡ comparison_decision (comparison op) (range_of left) (range_of right)) }
 {

@@ -1,7 +1,7 @@
 -- For domains of raws, what an operator makes is the result.
 use Rattle.std.proofs.Common.{◌∙◌}
 use Rattle.pay_facts.proofs.ResultLemmas.{proper, reach-is-result}
-use Rattle.pay_analysis.proofs.range.result_of.Goals as goal
+use Rattle.pay_ranges.proofs.range.result_of.Goals as goal
 
 pub returns-clause-same : goal.returns-clause-same
 returns-clause-same c =

@@ -3,7 +3,7 @@
 ghost use Rattle.std.specs.Prelude.{◌≡◌, Some, false, true};
 ghost use Rattle.pay_facts.specs.Decisions.{only_false, only_true, turned_decision, and_decision, or_decision};
 ghost use Rattle.pay_facts.specs.SlotFacts.{surely_decision};
-ghost use Rattle.pay_analysis.specs.Walking.{decision_of};
+ghost use Rattle.pay_ranges.specs.Views.{decision_of};
 
 use crate::range::with_flags;
 use pay_domains::Flags;

@@ -7,7 +7,7 @@ use Rattle.std.proofs.lemmas.Option.{none-some}
 use Rattle.pay_domains.specs.declared.piece.Piece.{Piece}
 use Rattle.pay_domains.specs.Pieces.{from_to, last_high, AreBeyond, IsCanonical}
 use Rattle.pay_facts.specs.Decisions.{least_raw, greatest_raw}
-use Rattle.pay_analysis.specs.Walking.{ends_of}
+use Rattle.pay_ranges.specs.Views.{ends_of}
 
 least-over : (z : ℤ) (p : Piece) (rest : List Piece) → z ≤ℤ p.low → p.low ≤ℤ p.high → AreBeyond p.high rest → z ≤ℤ least_raw p rest
 least-over z p [] h k e = h

@@ -1,0 +1,2 @@
+-- What the contracts of `pay_ranges` cite.
+pub mod Views
