@@ -17,6 +17,7 @@ pub mod SavesLaw
 pub mod AddLaw
 pub mod RunBounds
 pub mod FlatBounds
+pub mod StatesLaw
 pub mod PassLaw
 pub mod LoweringLemmas
 pub mod GoodOps

@@ -6,3 +6,4 @@ pub mod CodeLaws
 pub mod Bounds
 pub mod BoundLaws
 pub mod Programs
+pub mod States

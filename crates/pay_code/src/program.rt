@@ -3,6 +3,7 @@
 ghost use Rattle.std.specs.Prelude.{◌≡◌, ◌*◌, ◌<◌, ◌≤◌, get_or, length};
 ghost use Rattle.pay_code.specs.Bounds.{pays_in};
 ghost use Rattle.pay_code.specs.Programs.{AreGoodOps, IsValid};
+ghost use Rattle.pay_code.specs.States.{HasEntries, HasSaved, InEachRun};
 
 use crate::op::Op;
 use pay_dates::Day;
@@ -107,15 +108,19 @@ impl Program {
     }
 
     /// How many entries each stack has at most in a run: one for each operation.
+    #[tactic(auto, using(crate::proofs::StatesLaw::stacks_are_low))]
     pub fn stack(&self) -> u32
-        ensures { result ≡ length self.now.code }
+        ensures operations { result ≡ length self.now.code }
+        ensures enough { InEachRun (HasEntries (length self.now.code)) self.now }
     {
         self.ops.len() as u32
     }
 
     /// How many values the open splits of a run hold at most: two for each entry of the table.
+    #[tactic(auto, using(crate::proofs::StatesLaw::splits_are_few))]
     pub fn splits(&self) -> u32
-        ensures { result ≡ 2 * length self.now.table }
+        ensures entries { result ≡ 2 * length self.now.table }
+        ensures enough { InEachRun (HasSaved (2 * length self.now.table)) self.now }
     {
         2 * self.changed.len() as u32
     }

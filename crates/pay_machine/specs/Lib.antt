@@ -1,5 +1,6 @@
 -- What the contract of `pay_machine` cites.
 pub mod Outcomes
+pub mod NamedRuns
 pub mod Rows
 pub mod Runs
 pub mod RunLaws
