@@ -10,7 +10,7 @@ use Rattle.pay_tree.specs.Owned.{EventTree, StepsTree, TestTree}
 use Rattle.pay_fixed.specs.Weights.{weight_of}
 use Rattle.pay_runs.specs.Slots.{slots_finished, slots_faulted}
 use Rattle.pay_code.specs.declared.op.Op.TheVariants as op
-use Rattle.pay_code.specs.Bounds.{pays_in, legs_in, saved_in, steps_frames, steps_saved, steps_numbers, steps_weights, steps_parts}
+use Rattle.pay_code.specs.Bounds.{pays_in, legs_in, saved_in, steps_parts}
 use Rattle.pay_code.specs.Flat.{steps_code, steps_table, flat_code, events_table}
 use Rattle.pay_code.specs.Execution.{run_of}
 
@@ -89,10 +89,9 @@ fuzzy_run date = refl
 abbrev nested : StepsTree
 nested = step_then (choosing smoothed_test yes_steps (step_then (choosing either_of yes_steps no_steps_of (0 ∷ [])) no_steps) (0 ∷ [])) no_steps
 
--- the inner choice has its part of the table first; while its false branch runs, four values are saved
-its_bounds : (steps_table nested ≡ 0 ∷ 0 ∷ []) × (steps_frames nested ≡ 2) × (steps_saved nested ≡ 4) × (steps_numbers nested ≡ 2)
-    × (steps_weights nested ≡ 3) × (steps_parts nested ≡ 22)
-its_bounds = (refl, refl, refl, refl, refl, refl)
+-- each choice has its part of the table
+its_parts : (steps_table nested ≡ 0 ∷ 0 ∷ []) × (steps_parts nested ≡ 22)
+its_parts = (refl, refl)
 
 -- its code saves twice its table, and has three `Pay`s
 its_pays : (pays_in (steps_code 0 0 nested) ≡ 3) × (legs_in (steps_code 0 0 nested) ≡ 0 ∷ 0 ∷ 1 ∷ [])

@@ -1,5 +1,5 @@
--- How much a run of code can make of what it works on: payments, saved values, stacks, and evaluated parts.
-use Rattle.std.specs.Prelude.{◌≡◌, ℕ, ◌+◌, ◌-◌, ◌<◌, ◌≤◌, nat_le, true, List, [], ◌∷◌, ◌++◌, length, if◌then◌else◌}
+-- How much a run of code can make of what it works on: payments, saved values, and evaluated parts.
+use Rattle.std.specs.Prelude.{◌≡◌, ℕ, ◌+◌, ◌-◌, ◌<◌, ◌≤◌, true, List, [], ◌∷◌, ◌++◌, length}
 use Rattle.pay_tree.specs.Owned.{NumberTree, literal_at, slot_at, spot_at, unary_at, binary_at, TestTree, truth_at, compare_at, not_at, and_at, or_at}
 use Rattle.pay_tree.specs.Owned.{StepTree, assigning, paying, choosing, grouping, StepsTree, no_steps, step_then, EventTree}
 use Rattle.pay_runs.specs.Slots.{SlotPayment}
@@ -94,84 +94,3 @@ abbrev mutual
 abbrev pub events_parts : List EventTree → ℕ
 events_parts [] = 0
 events_parts (event ∷ rest) = steps_parts event.steps + events_parts rest
-
--- the greater of two counts
-abbrev pub most : ℕ → ℕ → ℕ
-most a b = if nat_le a b then b else a
-
--- how many numbers lie on their stack at once for a number
-abbrev pub number_depth : NumberTree → ℕ
-number_depth (literal_at id raw) = 1
-number_depth (slot_at id slot) = 1
-number_depth (spot_at id) = 1
-number_depth (unary_at id operator side) = number_depth side
-number_depth (binary_at id operator left right) = most (number_depth left) (number_depth right + 1)
-
--- the same for a test
-abbrev pub numbers_of_test : TestTree → ℕ
-numbers_of_test (truth_at id told answer) = 0
-numbers_of_test (compare_at id told comparison left right smooth) = most (number_depth left) (number_depth right + 1)
-numbers_of_test (not_at id told side) = numbers_of_test side
-numbers_of_test (and_at id told left right) = most (numbers_of_test left) (numbers_of_test right)
-numbers_of_test (or_at id told left right) = most (numbers_of_test left) (numbers_of_test right)
-
--- how many weights lie on their stack at once for a test
-abbrev pub test_depth : TestTree → ℕ
-test_depth (truth_at id told answer) = 1
-test_depth (compare_at id told comparison left right smooth) = 1
-test_depth (not_at id told side) = test_depth side
-test_depth (and_at id told left right) = most (test_depth left) (test_depth right + 1)
-test_depth (or_at id told left right) = most (test_depth left) (test_depth right + 1)
-
-abbrev mutual
-  -- how many numbers lie on their stack at once in a step
-  pub step_numbers : StepTree → ℕ
-  step_numbers (assigning slot value) = number_depth value
-  step_numbers (paying leg amount) = number_depth amount
-  step_numbers (choosing test yes_part no_part changes) = most (numbers_of_test test) (most (steps_numbers yes_part) (steps_numbers no_part))
-  step_numbers (grouping steps) = steps_numbers steps
-
-  -- the same in steps
-  pub steps_numbers : StepsTree → ℕ
-  steps_numbers no_steps = 0
-  steps_numbers (step_then step rest) = most (step_numbers step) (steps_numbers rest)
-
-abbrev mutual
-  -- how many weights lie on their stack at once in a step
-  pub step_weights : StepTree → ℕ
-  step_weights (assigning slot value) = 0
-  step_weights (paying leg amount) = 0
-  step_weights (choosing test yes_part no_part changes) = most (test_depth test) (most (steps_weights yes_part) (steps_weights no_part))
-  step_weights (grouping steps) = steps_weights steps
-
-  -- the same in steps
-  pub steps_weights : StepsTree → ℕ
-  steps_weights no_steps = 0
-  steps_weights (step_then step rest) = most (step_weights step) (steps_weights rest)
-
-abbrev mutual
-  -- how many choices have begun at once in a step
-  pub step_frames : StepTree → ℕ
-  step_frames (assigning slot value) = 0
-  step_frames (paying leg amount) = 0
-  step_frames (choosing test yes_part no_part changes) = most (steps_frames yes_part) (steps_frames no_part) + 1
-  step_frames (grouping steps) = steps_frames steps
-
-  -- the same in steps
-  pub steps_frames : StepsTree → ℕ
-  steps_frames no_steps = 0
-  steps_frames (step_then step rest) = most (step_frames step) (steps_frames rest)
-
-abbrev mutual
-  -- how many values open splits hold at once in a step: while the true branch runs once the changes of its choice, and then twice
-  pub step_saved : StepTree → ℕ
-  step_saved (assigning slot value) = 0
-  step_saved (paying leg amount) = 0
-  step_saved (choosing test yes_part no_part changes) =
-      most (length changes + steps_saved yes_part) (length changes + length changes + steps_saved no_part)
-  step_saved (grouping steps) = steps_saved steps
-
-  -- the same in steps
-  pub steps_saved : StepsTree → ℕ
-  steps_saved no_steps = 0
-  steps_saved (step_then step rest) = most (step_saved step) (steps_saved rest)
