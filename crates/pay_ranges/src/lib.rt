@@ -8,11 +8,11 @@
 //! What they are is said by the definitions of `pay_facts`; `specs/Views.antt` leads from the types of the code to these.
 #![tactic(auto)]
 
-mod compare;
+mod comparison;
 mod decision;
 mod range;
 
-pub use compare::compare;
+pub use comparison::compare;
 pub use decision::{Decision, both, either, surely, turned};
 pub use range::{
     Range, fixing_range, literal_range, no_flags, range_of_both, range_of_one, with_flags,

@@ -1,7 +1,7 @@
 use Rattle.std.proofs.Common.{◌≡◌, rules, Some, to_z, of_z, w64, ◌∙◌}
 use Rattle.pay_domains.specs.Pieces.{from_to}
 use Rattle.pay_ranges.proofs.EndLemmas.{ends_rise}
-use Rattle.pay_ranges.proofs.compare.ends.Goals as goal
+use Rattle.pay_ranges.proofs.comparison.ends.Goals as goal
 
 pub returns : goal.returns
 returns c =
