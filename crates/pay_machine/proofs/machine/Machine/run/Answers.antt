@@ -2,6 +2,6 @@ use Rattle.pay_machine.proofs.RunBound.{bounded_run}
 use Rattle.pay_machine.proofs.machine.Machine.run.Goals as goal
 
 pub returns-clause-bounded : goal.returns-clause-bounded
-returns-clause-bounded c = let h = c.give.ensures.ran in let k = c.cells.ensures in
+returns-clause-bounded c = let h = c.give.ensures.ran in let k = c.cells.ensures.same in
     bounded_run c.args.program.now c.args.row.now c.give.new.into (rw k at h) c.runs_are_bounded.ensures c.code_means.ensures
     c.parts_are_counted.ensures c.stands_for_events.ensures
