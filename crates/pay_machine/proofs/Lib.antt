@@ -1,6 +1,6 @@
 pub mod EventLemmas
 pub mod NamedOutcomes
-pub mod DirectRuns
+pub mod NamedRuns
 pub mod PaymentLemmas
 pub mod RowLemmas
 pub mod RunBound

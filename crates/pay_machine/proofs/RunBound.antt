@@ -19,7 +19,7 @@ made_as [] = refl
 made_as (first ∷ rest) = ap (λ l. first ∷ l) (made_as rest)
 
 -- the run of a program is what its events mean
-run_means : (program : Compiled) (events : List EventTree) (row : Row) → CodeMeans → StandsFor program events
+pub run_means : (program : Compiled) (events : List EventTree) (row : Row) → CodeMeans → StandsFor program events
     → run program row ≡ meant program.fuzzy events program.start row
 run_means program events row law stands =
     ap (λ table. run_of program.fuzzy table program.code program.start program.dates row) stands.table

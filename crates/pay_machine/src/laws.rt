@@ -1,7 +1,6 @@
-//! Laws of what runs give, whose functions are empty: what one ensures is the law. Beside them, a function that shows that rows, machines and outcomes may
+//! A law of what runs give, whose function is empty: what it ensures is the law. Beside it, a function that shows that rows, machines and outcomes may
 //! go to other threads.
 
-ghost use Rattle.pay_machine.specs.NamedRuns.{CrispRunsAreDirect};
 ghost use Rattle.pay_machine.specs.RunLaws.{NumbersAreNames};
 
 use crate::machine::Machine;
@@ -11,11 +10,6 @@ use crate::row::Row;
 /// What a run gave by number is the outcome of what is meant by name.
 pub fn numbers_are_names()
     ensures { NumbersAreNames }
-{}
-
-/// A run of a program that reads no smoothings gives the direct meaning of the events that it stands for, by the names of variables and legs.
-pub fn crisp_runs_are_direct()
-    ensures { CrispRunsAreDirect }
 {}
 
 /// Rows, machines and outcomes may be sent to other threads, and these may share them.

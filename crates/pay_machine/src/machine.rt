@@ -2,6 +2,7 @@
 
 ghost use Rattle.std.specs.Prelude.{◌≡◌, IfOk, length};
 ghost use Rattle.pay_code.specs.Programs.{run};
+ghost use Rattle.pay_machine.specs.NamedRuns.{GivesMeaningByName};
 ghost use Rattle.pay_machine.specs.Runs.{GivesMeaning, HasRoom, IsBounded, IsGiven, Serves};
 
 use crate::outcome::Outcome;
@@ -71,6 +72,7 @@ impl Machine {
         requires row { length row.now ≡ length program.now.dates }
         ensures ran { IsGiven (run program.now row.now) into.new }
         ensures meant { GivesMeaning program.now row.now into.new }
+        ensures named { GivesMeaningByName program.now row.now into.new }
         ensures bounded { IsBounded program.now into.new }
         ensures serves { Serves self.new program.now }
         ensures room { HasRoom into.new program.now }

@@ -4,24 +4,22 @@ use Rattle.std.proofs.Common.{Option, Some, None, IsTrue, All, refl, ap, ◌∙�
 use Rattle.std.specs.List.{list_all, zip}
 use Rattle.std.proofs.lemmas.Int.{ints}
 use Rattle.std.proofs.lemmas.List.{length-map}
-use Rattle.std.proofs.lemmas.Bool.{and_parts, cases_eq, ne_eqb, ltb-true}
 use Rattle.pay_dates.specs.declared.day.Day.{Day}
 use Rattle.pay_meaning.specs.Language.{Event, done}
 use Rattle.pay_meaning.specs.Meaning.{Fixings, Past, fixing_at, fixings_of, meaning, no_variables}
 use Rattle.pay_tables.specs.Tables.{are_distinct}
 use Rattle.pay_code.specs.Bounds.{legs_in, AreOnLegs}
-use Rattle.pay_code.specs.Filled.{is_among}
 use Rattle.pay_code.specs.Programs.{Compiled, run}
 use Rattle.pay_compile.specs.Compiling.{events_until, CountsNodes, HasOwnLegs, MeansDirectly}
 use Rattle.pay_domains.specs.Pieces.{Held}
 use Rattle.pay_facts.specs.Holding.{AreFixings, IsFixing}
 use Rattle.pay_facts.specs.Ranges.{fixings}
 use Rattle.pay_runs.specs.Counting.{node_count}
-use Rattle.pay_machine.specs.declared.outcome.Payment.{Payment}
 use Rattle.pay_machine.specs.Outcomes.{Given, IsOutcome}
 use Rattle.pay_machine.specs.Rows.{AreCells, IsCell}
 use Rattle.pay_machine.specs.Runs.{IsGiven, IsBounded}
 use Rattle.pay_machine.proofs.NamedOutcomes.{numbers_are_names}
+use Rattle.pay_machine.proofs.NamedRuns.{legs_below}
 use Rattle.pay_scenarios.specs.Aligned.{cells_from}
 use Rattle.pay_scenarios.specs.Columns.{source_of}
 use Rattle.pay_scenarios.specs.declared.columns.FixingSource.{FixingSource}
@@ -54,23 +52,6 @@ pub cells_are_limited : (past : Option Past) (dates : List Day) (cells : List (O
     → AreCells (cells_from (map (λ date. source_of past dates date) own) cells)
 cells_are_limited past dates cells own distinct full fixed =
     rw (row_cells past dates cells own distinct full) (fixings_limited (fixings_of past (zip dates cells)) own fixed)
-
--- what holds of each of these holds of one that is among them
-holds_among : (p : ℕ → Bool) (legs : List ℕ) (leg : ℕ) → list_all p legs ≡ true → is_among leg legs ≡ true → p leg ≡ true
-holds_among p [] leg all among = absurd (let found : false ≡ true = among in cc)
-holds_among p (first ∷ legs) leg all among =
-    let parts = and_parts (p first) (list_all p legs) all in
-    elim (cases_eq leg first) [
-      | inl same ↦ ap p same ∙ parts.0
-      | inr differ ↦ holds_among p legs leg parts.1 (rw (ne_eqb leg first differ) at among)
-    ]
-
--- payments on these legs are on legs below a bound that each of these is below
-legs_below : (legs : List ℕ) (bound : ℕ) (payments : List Payment) → list_all (λ leg. nat_lt leg bound) legs ≡ true
-    → AreOnLegs legs (map (λ p. record { date = p.date; leg = p.leg; amount = p.amount }) payments) → All (λ p. p.leg < bound) payments
-legs_below legs bound [] all on i x h = absurd (omega arith)
-legs_below legs bound (payment ∷ payments) all on zero x h = ltb-true payment.leg bound (holds_among (λ leg. nat_lt leg bound) legs payment.leg all on.0)
-legs_below legs bound (payment ∷ payments) all on (suc i) x h = legs_below legs bound payments all on.1 i x (omega arith)
 
 -- without a last date all events are kept
 pub all_kept : (events : List Event) → events_until None events ≡ events
