@@ -191,3 +191,136 @@ fn each_event_is_explained(rt: HostRuntime) -> Result<(), Fail> {
     }
     Ok(())
 }
+
+// A script, and all that `explain` writes of it.
+const EXPLAINED_WHOLE: [(&str, &str); 5] = [
+    // The branch that is not chosen is gone, with its fault.
+    (
+        "@2024-06-28 if alive = 0 then a pays 1 else a pays 1/0 endif",
+        "event 2024-06-28 period 0 days 0
+  a pays 1;
+  domain alive: 0
+",
+    ),
+    // The condition is always true, and stays for the fixing that may be missing.
+    (
+        "@2024-06-28 if spot() * 0 = 0 then a pays 1 endif",
+        "event 2024-06-28 period 0 days 0
+  if sure(true, (spot() * 0) = 0) then // changes nothing
+    a pays 1;
+  endif
+",
+    ),
+    // Numbers of either sign, and their products.
+    (
+        "@2024-06-28 if spot() > 0 then x = -1 else x = 2 endif if spot() > 5 then y = -3 else y = 4 endif z = x * y",
+        "event 2024-06-28 period 0 days 0
+  if spot() > 0 then // changes x
+    x = -1;
+  else
+    x = 2;
+  endif
+  if spot() > 5 then // changes y
+    y = -3;
+  else
+    y = 4;
+  endif
+  z = (x * y);
+  domain x: -1 | 2
+  domain y: -3 | 4
+  domain z: -6 | -4 | 3 | 8
+",
+    ),
+    // Of 17 numbers the two that lie closest are one piece.
+    (
+        "@2024-06-28 x = 0
+  if spot() > 1 then x = 1 endif if spot() > 2 then x = 2 endif if spot() > 3 then x = 3 endif if spot() > 4 then x = 4 endif
+  if spot() > 5 then x = 5 endif if spot() > 6 then x = 6 endif if spot() > 7 then x = 7 endif if spot() > 8 then x = 8 endif
+  if spot() > 9 then x = 9 endif if spot() > 10 then x = 10 endif if spot() > 11 then x = 11 endif if spot() > 12 then x = 12 endif
+  if spot() > 13 then x = 13 endif if spot() > 14 then x = 14 endif if spot() > 15 then x = 15 endif if spot() > 16 then x = 16 endif",
+        "event 2024-06-28 period 0 days 0
+  x = 0;
+  if spot() > 1 then // changes x
+    x = 1;
+  endif
+  if spot() > 2 then // changes x
+    x = 2;
+  endif
+  if spot() > 3 then // changes x
+    x = 3;
+  endif
+  if spot() > 4 then // changes x
+    x = 4;
+  endif
+  if spot() > 5 then // changes x
+    x = 5;
+  endif
+  if spot() > 6 then // changes x
+    x = 6;
+  endif
+  if spot() > 7 then // changes x
+    x = 7;
+  endif
+  if spot() > 8 then // changes x
+    x = 8;
+  endif
+  if spot() > 9 then // changes x
+    x = 9;
+  endif
+  if spot() > 10 then // changes x
+    x = 10;
+  endif
+  if spot() > 11 then // changes x
+    x = 11;
+  endif
+  if spot() > 12 then // changes x
+    x = 12;
+  endif
+  if spot() > 13 then // changes x
+    x = 13;
+  endif
+  if spot() > 14 then // changes x
+    x = 14;
+  endif
+  if spot() > 15 then // changes x
+    x = 15;
+  endif
+  if spot() > 16 then // changes x
+    x = 16;
+  endif
+  domain x: 0 | 1 | 2 | 3 | 4 | 5 | 6 | 7 | 8 | 9 | 10 | 11 | 12 | 13 | 14 | 15 to 16
+",
+    ),
+    // A variable that an open `if` changes, read at a further event.
+    (
+        "@2024-01-10 alive = 1 if spot() > 100 then alive = 0 endif @2024-02-12 if alive = 1 then a pays 10 endif",
+        "event 2024-01-10 period 0 days 0
+  alive = 1;
+  if spot() > 100 then // changes alive
+    alive = 0;
+  endif
+  domain alive: 0 | 1
+event 2024-02-12 period 0 days 0
+  if alive = 1 then // changes nothing
+    a pays 10;
+  endif
+  domain alive: 0 | 1
+",
+    ),
+];
+
+#[test]
+fn a_script_is_explained(rt: HostRuntime) -> Result<(), Fail> {
+    let alloc = rt.alloc();
+    for (script, text) in EXPLAINED_WHOLE {
+        let mut depot = depot_with(alloc, script.as_bytes(), b"")?;
+        let mut out = MemorySink::new(alloc, ROOM)?;
+        let mut err = MemorySink::new(alloc, ROOM)?;
+        assert_eq!(rt;
+            status_of(alloc, &["explain", "s.pay"], &mut depot, &mut out, &mut err)?,
+            0
+        );
+        assert_eq!(rt; out.text(), text.as_bytes());
+    }
+    Ok(())
+}

@@ -86,7 +86,7 @@ fn explain(
     let left = simplify_event(alloc, event, facts)?;
     let mut text = Vec::new(alloc);
     write_heading(alloc, event, &mut text)?;
-    let lines = print_steps(alloc, names, legs, left.steps.as_slice(), b"  ")?;
+    let lines = print_steps(alloc, left.steps.as_slice(), names, legs, 1)?;
     text.extend_from_slice(&lines)?;
     write_domain_lines(names, facts.domains.as_slice(), &mut text)?;
     Ok(text)

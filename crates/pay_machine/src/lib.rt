@@ -13,8 +13,10 @@
 //! }
 //! ```
 //!
-//! An outcome knows no names: `specs/Outcomes.antt` says of which meaning it is the outcome, where a number stands for its place among the script's
-//! variables or legs. Proved: a run gives what the program's events mean by the numbers of their variables, and evaluates as many of their parts.
+//! A row has fixings within their limit alone (`specs/Rows.antt`). An outcome knows no names: `specs/Outcomes.antt` says of which meaning it is the
+//! outcome, where a number stands for its place among the script's variables or legs. Proved: a run gives what the program's events mean, by the numbers
+//! of their variables (`specs/Runs.antt`) and by their names (`specs/NamedRuns.antt`), and evaluates as many of their parts; in a program that reads no
+//! smoothings that is the direct meaning.
 //!
 //! What a machine works on is what code works on in the definition of its run, as `specs/Work.antt` says, and each operation does there what that
 //! definition says, whatever the code is: so it needs no valid code, and tests no index. Each stack has a room of its own, and a run of as many

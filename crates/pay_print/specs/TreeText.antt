@@ -1,5 +1,5 @@
 -- The same text of owned steps, where variables and legs are numbers and each `if` has the numbers of the variables that it changes.
-use Rattle.std.specs.Prelude.{ℕ, Bool, true, false, codes, List, [], ◌∷◌, ◌++◌, map}
+use Rattle.std.specs.Prelude.{ℕ, zero, suc, Bool, true, false, codes, List, [], ◌∷◌, ◌++◌, map}
 use Rattle.pay_tree.specs.Owned.{StepTree, assigning, paying, choosing, grouping, StepsTree, no_steps, step_then}
 use Rattle.pay_tree.specs.Owned.{name_at, spelled_number, spelled_test}
 use Rattle.pay_text.specs.Text.{line_text, word_line, deeper, item_indent}
@@ -37,6 +37,11 @@ abbrev mutual
   pub steps_lines : List (List ℕ) → List (List ℕ) → List ℕ → StepsTree → List ℕ
   steps_lines names legs indent no_steps = []
   steps_lines names legs indent (step_then step rest) = step_lines names legs indent step ++ steps_lines names legs indent rest
+
+-- the indent at a depth: two spaces so many times
+abbrev pub indent_at : ℕ → List ℕ
+indent_at zero = []
+indent_at (suc depth) = deeper (indent_at depth)
 
 -- the text of the steps of an event
 abbrev pub tree_text : List (List ℕ) → List (List ℕ) → StepsTree → List ℕ

@@ -4,8 +4,8 @@
 //! `if` has its own line, the lines of its first branch two spaces further in, where its second branch has a step a line `else` and theirs, and a line
 //! `endif`. It differs from it in what only such steps have, and in a comment:
 //!
-//! - The line of an `if` ends in the names of the variables that its branches assign, in the order of the variables: `if C then // changes x, y`, or
-//!   `if C then // changes nothing`.
+//! - The line of an `if` ends in the names of the variables in its list of changes, which are those that its branches assign, in the order of the
+//!   variables, once the lists are filled: `if C then // changes x, y`, or `if C then // changes nothing`.
 //! - A test whose truth is known is `true` or `false`, and one that is asked for its fault alone, its answer being known, `sure(true, C)` or
 //!   `sure(false, C)`.
 //! - A group has no line of its own: its steps stand in its place, and a branch of groups that are empty has no step.

@@ -2,6 +2,7 @@
 
 ghost use Rattle.std.specs.Prelude.{◌≡◌, ◌++◌, codes, map, IfOk, OnOk};
 ghost use Rattle.pay_print.specs.StepText as text_of;
+ghost use Rattle.pay_print.specs.TreeText.{indent_at};
 ghost use Rattle.pay_tree.specs.Owned.{name_at, spelled_number, spelled_test};
 ghost use Rattle.pay_tree.specs.OwnedViews.{number_tree, test_tree};
 ghost use Rattle.pay_text.specs.Text.{condition_text, deeper, line_text, word_line};
@@ -10,6 +11,17 @@ use crate::parts::{name_at, print_number, print_test};
 use pay_fixed::NoMemory;
 use pay_tree::{Name, Node, Test};
 use std::alloc::Global;
+
+/// The indent at a depth.
+pub fn indent_at(alloc: Global, depth: u32) -> Result<Vec<u8>, NoMemory>
+    ensures { IfOk result (λ indent. indent.items ≡ indent_at depth) }
+{
+    let mut indent = Vec::new(alloc);
+    for _ in 0..depth {
+        indent.extend_from_slice(b"  ")?;
+    }
+    Ok(indent)
+}
 
 /// The indent of the branches of an `if`: two spaces more.
 pub fn deeper(alloc: Global, indent: &[u8]) -> Result<Vec<u8>, NoMemory>

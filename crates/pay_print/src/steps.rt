@@ -2,33 +2,34 @@
 
 ghost use Rattle.std.specs.Prelude.{◌≡◌, ◌++◌, IfOk, OnOk};
 ghost use Rattle.pay_print.specs.StepText.{else_lines};
-ghost use Rattle.pay_print.specs.TreeText.{has_any, opened_step, opened_steps, step_lines, steps_lines};
+ghost use Rattle.pay_print.specs.TreeText.{has_any, indent_at, opened_step, opened_steps, step_lines, steps_lines};
 ghost use Rattle.pay_tree.specs.OwnedViews.{step_tree, steps_tree};
 ghost use Rattle.pay_text.specs.Text as text_of;
 
-use crate::lines::{deeper, print_choice_line, print_line, print_word_line};
+use crate::lines::{deeper, indent_at, print_choice_line, print_line, print_word_line};
 use crate::parts::name_at;
 use pay_fixed::NoMemory;
 use pay_tree::{Name, Step};
 use std::alloc::Global;
 
-/// The lines of steps after this indent, where the variables and the legs have these names. An `if` shows the names of the variables in its list of
-/// changes, in the order of that list. A number past the end of the names has the empty one.
+/// The lines of steps, where the variables and the legs have these names, further in by two spaces for each of `depth`. An `if` shows the names of the
+/// variables in its list of changes, in the order of that list. A number past the end of the names has the empty one.
 ///
 /// # Errors
 ///
 /// [`NoMemory`] where there was no memory for the lines.
 pub fn print_steps(
     alloc: Global,
+    steps: &[Step],
     names: &[Name],
     legs: &[Name],
-    steps: &[Step],
-    indent: &[u8],
+    depth: u32,
 ) -> Result<Vec<u8>, NoMemory>
-    ensures { IfOk result (λ lines. lines.items ≡ steps_lines names.now legs.now indent.now (steps_tree steps.now)) }
+    ensures { IfOk result (λ lines. lines.items ≡ steps_lines names.now legs.now (indent_at depth) (steps_tree steps.now)) }
 {
+    let indent = indent_at(alloc, depth)?;
     let mut lines = Vec::new(alloc);
-    append_steps(alloc, names, legs, steps, indent, &mut lines)?;
+    append_steps(alloc, names, legs, steps, &indent, &mut lines)?;
     Ok(lines)
 }
 
