@@ -154,9 +154,21 @@ const REPORTS: [(&str, &str, &str); 30] = [
     ),
     // Comparisons below, at and above a number.
     (
-        "@2024-06-28 if spot() < 1 then a pays 1 endif if spot() <= 1 then a pays 2 endif if spot() > 1 then a pays 3 endif if spot() >= 1 then a pays 4 endif if spot() = 1 then a pays 5 endif if spot() != 1 then a pays 6 endif",
+        "@2024-06-28 if spot() < 1 then a pays 1 endif if spot() <= 1 then a pays 2 endif if spot() > 1 then a pays 3
+endif if spot() >= 1 then a pays 4 endif if spot() = 1 then a pays 5 endif if spot() != 1 then a pays 6 endif",
         "scenario,2024-06-28\nb,0.9999\nc,1\nd,1.0001\n",
-        "scenario,date,leg,amount\nb,2024-06-28,a,1\nb,2024-06-28,a,2\nb,2024-06-28,a,6\nc,2024-06-28,a,2\nc,2024-06-28,a,4\nc,2024-06-28,a,5\nd,2024-06-28,a,3\nd,2024-06-28,a,4\nd,2024-06-28,a,6\n#nodes,90,,\n",
+        "scenario,date,leg,amount
+b,2024-06-28,a,1
+b,2024-06-28,a,2
+b,2024-06-28,a,6
+c,2024-06-28,a,2
+c,2024-06-28,a,4
+c,2024-06-28,a,5
+d,2024-06-28,a,3
+d,2024-06-28,a,4
+d,2024-06-28,a,6
+#nodes,90,,
+",
     ),
     // The events of a schedule, with its days, among which a plain item stands.
     (

@@ -1,14 +1,14 @@
 -- A run of an aligned program gives what its events mean under the fixings of a row.
-use Rattle.std.proofs.Common.{◌≡◌, ℕ, zero, suc, ◌<◌, ◌≤◌, nat_lt, Bool, true, false, inl, inr, ℤ, unsigned_abs, sym, List, [], ◌∷◌, length, map}
-use Rattle.std.proofs.Common.{Option, Some, None, IsTrue, All, refl, ap, ◌∙◌, arith}
-use Rattle.std.specs.List.{list_all, zip}
+use Rattle.std.proofs.Common.{◌≡◌, ℕ, ◌≤◌, false, inl, inr, ℤ, unsigned_abs, List, [], ◌∷◌, length, map}
+use Rattle.std.proofs.Common.{Option, Some, None, IsTrue, refl, ap, ◌∙◌, arith}
+use Rattle.std.specs.List.{zip}
 use Rattle.std.proofs.lemmas.Int.{ints}
 use Rattle.std.proofs.lemmas.List.{length-map}
 use Rattle.pay_dates.specs.declared.day.Day.{Day}
 use Rattle.pay_meaning.specs.Language.{Event, done}
 use Rattle.pay_meaning.specs.Meaning.{Fixings, Past, fixing_at, fixings_of, meaning, no_variables}
 use Rattle.pay_tables.specs.Tables.{are_distinct}
-use Rattle.pay_code.specs.Bounds.{legs_in, AreOnLegs}
+use Rattle.pay_code.specs.Bounds.{legs_in}
 use Rattle.pay_code.specs.Programs.{Compiled, run}
 use Rattle.pay_compile.specs.Compiling.{events_until, CountsNodes, HasOwnLegs, MeansDirectly}
 use Rattle.pay_domains.specs.Pieces.{Held}
@@ -36,6 +36,7 @@ row_cells past dates cells (date ∷ own) distinct full =
 -- a raw that the fixings hold is at most 10^15 in magnitude
 limited : (raw : ℤ) → Held raw fixings → unsigned_abs raw ≤ 1_000_000_000_000_000
 limited raw (inl within) = omega (arith, ints, within.low, within.high)
+limited raw (inr other) = absurd other
 
 cell_limited : (cell : Option ℤ) → IsFixing cell → IsCell cell
 cell_limited None h = tt

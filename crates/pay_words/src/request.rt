@@ -24,7 +24,7 @@ pub enum Request {
         /// The file of the script.
         script: FileName,
     },
-    /// What every variable of a script can hold after each of its events.
+    /// What is left of each event of a script once it is simplified, and what every variable can hold after it.
     Explain {
         /// The file of the script.
         script: FileName,
