@@ -107,6 +107,8 @@ impl<'a> AlignedProgram<'a> {
     /// # Errors
     ///
     /// [`NoMemory`] where there was no memory for the cells of the program.
+    // Never inlined: in a larger function the machine's loop keeps less in registers, and a run takes longer.
+    #[inline(never)]
     pub fn run(&self, cells: &[Option<Fixed>], runs: &mut Runs) -> Result<(), NoMemory>
         requires full { length cells.now ≡ length self.now.dates.now }
         requires good_past { AreGoodIfGiven (lent_past self.now.past) }
